@@ -1,0 +1,2 @@
+-- The theory of the model, which the crates above cite.
+pub mod ExampleProof
