@@ -4,9 +4,9 @@ use mathlib.Core.List.{List, [], _∷_, _++_}
 use lib.ListN.{getD}
 
 -- the values at the first n numbers: s gives the value at a number from those below it, and d stands for any other
-unfoldable pub values : {A : Type 0} → (ℕ → (ℕ → A) → A) → A → ℕ → List A
-values s d zero = []
-values s d (suc n) = let vs = values s d n in vs ++ (s n (λ j. getD vs j d) ∷ [])
+unfoldable pub valuesBelow : {A : Type 0} → (ℕ → (ℕ → A) → A) → A → ℕ → List A
+valuesBelow s d zero = []
+valuesBelow s d (suc n) = let vs = valuesBelow s d n in vs ++ (s n (λ j. getD vs j d) ∷ [])
 
-unfoldable pub value : {A : Type 0} → (ℕ → (ℕ → A) → A) → A → ℕ → A
-value s d n = s n (λ j. getD (values s d n) j d)
+unfoldable pub valueAt : {A : Type 0} → (ℕ → (ℕ → A) → A) → A → ℕ → A
+valueAt s d n = s n (λ j. getD (valuesBelow s d n) j d)

@@ -3,7 +3,7 @@
 use mathlib.Core.Path.{_≡_, refl}
 use Rattle.lists.specs.Tab.{listed, tab, sum, all}
 use Rattle.lists.specs.First.{walk}
-use Rattle.lists.specs.Falling.{values, value}
+use Rattle.lists.specs.Falling.{valuesBelow, valueAt}
 use Rattle.model.specs.Class.{class, tracked}
 use Rattle.model.specs.Table.{tableOf, typeOf, marked, nodeKind, rowKind, nodeRoles, rowRoles, matchingEnd, openAt}
 use Rattle.model.specs.State.{fresh, Machine}
@@ -20,7 +20,7 @@ unfolding listed tab sum all walk class tracked tableOf typeOf marked nodeKind r
 examples-hold = refl
 
 pub accepted-T : Accepted plain (tableOf T)
-unfolding listed tab sum all walk values value tableOf typeOf marked nodeKind rowKind nodeRoles rowRoles openAt known nodeThere rowThere nodeType nodeTyped rowTyped rowOpened nodeMarked rowMarked T
+unfolding listed tab sum all walk valuesBelow valueAt tableOf typeOf marked nodeKind rowKind nodeRoles rowRoles openAt known nodeThere rowThere nodeType nodeTyped rowTyped rowOpened nodeMarked rowMarked T
 accepted-T = record {
   whole = refl;
   kinds = refl;

@@ -7,7 +7,7 @@ use lib.ListN.{length, getD}
 use lib.Dec.{ltb, leb, eqb}
 use Rattle.lists.specs.Choice.{if_then_else_}
 use Rattle.lists.specs.Tab.{all}
-use Rattle.lists.specs.Falling.{value}
+use Rattle.lists.specs.Falling.{valueAt}
 use Rattle.model.specs.Table.{Table, Line, lineAt, lines, nodeAt, rowAt, Ty, typeAt, markedUint, markedPointer, Node, nodeKind, Row, rowKind, Role, Roles, nodeRoles, rowRoles, Nest, nestAt, openAt}
 use Rattle.model.specs.Table.Ty.{bool, uint, pointer}
 use Rattle.model.specs.Table.Node.{variable, uintConstant, boolConstant, cell, plus, minus, less, atMost, equal, conditional, valid, classVariable, reducedCell, reducedValid, noNode}
@@ -66,7 +66,7 @@ typeBy t reducedValid a b ty = bool
 typeBy t noNode a b ty = bool
 
 unfoldable pub nodeType : Table → ℕ → Ty
-nodeType t n = value (λ m ty. typeBy t (nodeKind (nodeAt t m .kind)) (nodeAt t m .a) (nodeAt t m .b) ty) bool n
+nodeType t n = valueAt (λ m ty. typeBy t (nodeKind (nodeAt t m .kind)) (nodeAt t m .a) (nodeAt t m .b) ty) bool n
 
 abbrev pub tyNumber : Ty → ℕ
 tyNumber bool = 1

@@ -53,6 +53,20 @@ setVar s a v = do
   old ← variableOf (s .vars) a
   if eqb (sortOf v) (sortOf old) then give (withVar s a v) else wrong
 
+-- past the end row of the loop of row r
+abbrev pub pastEnd : Table → ℕ → Work ℕ
+pastEnd t r = if ltb (matchingEnd t r) (t .rows) then give (suc (matchingEnd t r)) else wrong
+
+-- loop entry: "if start ≤ end it sets the iterator to start and enters, else it sets it likewise and goes past its end row"
+abbrev pub enter : Table → State → ℕ → Value → ℕ → ℕ → Work ℕ → Work Move
+enter t s r v from upto out = do
+  s′ ← setVar s (rowAt t r .a) v
+  if leb from upto
+      then give (to (goTo (withLoops s′ (record { row = r; start = from; end = upto } ∷ s′ .loops)) (suc r)))
+      else (do
+        q ← out
+        give (to (goTo s′ q)))
+
 module _ (ps : List ℕ) where
   -- a write to cell i of an array, one of its own and of those lent
   abbrev pub put : State → Array → ℕ → ℕ → Work Move
@@ -77,37 +91,26 @@ module _ (ps : List ℕ) where
         then (if keeps ps r v then put s r (indexOf ps r v) x else give (to (past s)))
         else fail
 
-  -- 37 and 41: "ends for want of cells exactly when there are 16 arrays or the new cells don't fit after those laid; else it zeroes
-  -- the new array's cells and points at its place 0"
-  abbrev pub newArray : State → ℕ → Array → Work Move
-  newArray s a r =
+  -- 37 and 41, the length worked out: "ends for want of cells exactly when there are 16 arrays or the new cells don't fit after those
+  -- laid; else it zeroes the new array's cells and points at its place 0" (R19); f: reduced
+  abbrev pub addArray : State → ℕ → Bool → Move
+  addArray s n f =
       if leb mostArrays (length (s .arrays))
-      then give (stop wantOfCells)
-      else (if leb (r .start + sizeOf ps r) (length (s .cells))
-      then (do
-        s′ ← setVar s a (Pointer (suc (length (s .arrays))) 0)
-        give (to (record {
-          row = suc (s .row);
-          loops = s .loops;
-          vars = s′ .vars;
-          arrays = s .arrays ++ r ∷ [];
-          cells = cleared (r .start) (sizeOf ps r) (s .cells);
-        })))
-      else give (stop wantOfCells))
+      then stop wantOfCells
+      else (if leb (used ps (s .arrays) + sizeOf ps (made (used ps (s .arrays)) n f)) (length (s .cells))
+      then to (record {
+        row = suc (s .row);
+        loops = s .loops;
+        vars = s .vars;
+        arrays = s .arrays ++ made (used ps (s .arrays)) n f ∷ [];
+        cells = cleared (used ps (s .arrays)) (sizeOf ps (made (used ps (s .arrays)) n f)) (s .cells);
+      })
+      else stop wantOfCells)
 
-  -- past the end row of the loop of row r
-  abbrev pub pastEnd : Table → ℕ → Work ℕ
-  pastEnd t r = if ltb (matchingEnd t r) (t .rows) then give (suc (matchingEnd t r)) else wrong
-
-  -- loop entry: "if start ≤ end it sets the iterator to start and enters, else it sets it likewise and goes past its end row"
-  abbrev pub enter : Table → State → ℕ → Value → ℕ → ℕ → Work ℕ → Work Move
-  enter t s r v from upto out = do
-    s′ ← setVar s (rowAt t r .a) v
-    if leb from upto
-        then give (to (goTo (withLoops s′ (record { row = r; start = from; end = upto } ∷ s′ .loops)) (suc r)))
-        else (do
-          q ← out
-          give (to (goTo s′ q)))
+  abbrev pub newArray : State → ℕ → ℕ → Bool → Work Move
+  newArray s a n f = do
+    s′ ← setVar s a (Pointer (suc (length (s .arrays))) 0)
+    give (addArray s′ n f)
 
   -- the loop of row r, by that row's kind, with start x and end y. 42: "a choice in the class of start, then one in the class of end.
   -- They take the place of start and end and are kept; the iterator gets the class of start." (R15)
@@ -158,7 +161,7 @@ module _ (ps : List ℕ) where
     give (if x then to (past s) else stop assumeFalse)
   rowRule t s n array a b c = do
     l ← node t s uint b
-    newArray s a (made (used ps (s .arrays)) l false)
+    newArray s a l false
   rowRule t s n loop a b c = do
     x ← node t s uint b
     y ← node t s uint c
@@ -170,7 +173,7 @@ module _ (ps : List ℕ) where
     reducedWrite s p x
   rowRule t s n reducedArray a b c = do
     l ← node t s uint b
-    newArray s a (made (used ps (s .arrays)) l true)
+    newArray s a l true
   rowRule t s n classLoop a b c = do
     x ← node t s uint b
     y ← node t s uint c

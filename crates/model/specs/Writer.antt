@@ -39,23 +39,23 @@ abbrev pub heldReduced : List Bool → ℕ → Bool
 heldReduced ks zero = false
 heldReduced ks (suc i) = getD ks i false
 
--- ... after a row: row 37 makes an array, which the reduced run holds reduced if its pointer is marked
-abbrev pub madeBy : Row → Bool → List Bool
-madeBy skip q = []
-madeBy assign q = []
-madeBy store q = []
-madeBy assert q = []
-madeBy assume q = []
-madeBy array q = q ∷ []
-madeBy loop q = []
-madeBy loopEnd q = []
-madeBy reducedStore q = []
-madeBy reducedArray q = []
-madeBy classLoop q = []
-madeBy noRow q = []
+-- ... after a row of kind k: row 37 makes an array, which the reduced run holds reduced if its pointer is marked (q)
+abbrev pub heldAfter : Row → Bool → List Bool → List Bool
+heldAfter skip q ks = ks
+heldAfter assign q ks = ks
+heldAfter store q ks = ks
+heldAfter assert q ks = ks
+heldAfter assume q ks = ks
+heldAfter array q ks = ks ++ q ∷ []
+heldAfter loop q ks = ks
+heldAfter loopEnd q ks = ks
+heldAfter reducedStore q ks = ks
+heldAfter reducedArray q ks = ks
+heldAfter classLoop q ks = ks
+heldAfter noRow q ks = ks
 
-abbrev pub heldAfter : Table → ℕ → List Bool → List Bool
-heldAfter t n ks = ks ++ madeBy (rowKind (rowAt t n .kind)) (markedPointer t (rowAt t n .a))
+abbrev pub heldNext : Table → ℕ → List Bool → List Bool
+heldNext t n ks = heldAfter (rowKind (rowAt t n .kind)) (markedPointer t (rowAt t n .a)) ks
 
 -- "writes the true number wherever the reduced run takes a choice": at the plain state s. The plain machine tracks no place
 module _ (ps : List ℕ) (t : Table) (ks : List Bool) (s : State) where
@@ -139,7 +139,7 @@ unfoldable pub written : List ℕ → Table → ℕ → List Bool → State → 
 written ps t zero ks s = []
 written ps t (suc k) ks s =
     if ltb (s .row) (t .rows)
-    then stepChoices ps t ks s (s .row) ++ onward (step [] t s []) (written ps t k (heldAfter t (s .row) ks))
+    then stepChoices ps t ks s (s .row) ++ onward (step [] t s []) (written ps t k (heldNext t (s .row) ks))
     else []
 
 -- a report with numbers put before its list
@@ -164,6 +164,6 @@ writer ps t (suc k) n ks s room =
     if ltb (s .row) (t .rows)
     then (if leb (length (stepChoices ps t ks s (s .row))) room
     then writes n s (stepChoices ps t ks s (s .row)) (step [] t s [])
-    (λ s′. writer ps t k (suc n) (heldAfter t (s .row) ks) s′ (room - length (stepChoices ps t ks s (s .row))))
+    (λ s′. writer ps t k (suc n) (heldNext t (s .row) ks) s′ (room - length (stepChoices ps t ks s (s .row))))
     else ended listFull n s [])
     else ended done n s []
