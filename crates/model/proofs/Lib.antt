@@ -8,4 +8,8 @@ pub mod Keep
 pub mod Nested
 pub mod MatchEval
 pub mod MatchStep
+pub mod MatchRun
+pub mod WriterLaws
+pub mod ReduceLaws
+pub mod Typing
 pub mod ExampleProof

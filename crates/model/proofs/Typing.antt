@@ -1,0 +1,354 @@
+-- What the tests of an accepted table say of each node and each row, in the form in which the theory uses it.
+-- Assumes nothing.
+use mathlib.Core.Path.{_≡_, refl, sym, ap, _∙_, subst}
+use Prim.Native.Nat.{ℕ, zero, suc, _+_, _*_, _≤_, _<_}
+use native.Mathlib.Decide.{decLe}
+use native.Mathlib.Omega.{arith}
+use mathlib.Core.Bool.{Bool, true, false, not, _&&_, false≢true, true≢false}
+use mathlib.Core.List.{List, [], _∷_}
+use lib.ListN.{length, getD, List·getD-eq-default}
+use lib.Dec.{ltb, eqb}
+use borrow.Author.Tests.{ltb-true, lt-ltb, eqb-true}
+use Rattle.lists.specs.Choice.{if_then_else_}
+use Rattle.lists.specs.Tab.{all}
+use Rattle.lists.proofs.TabLaws.{all-at}
+use Rattle.lists.proofs.FallingLaws.{value-is}
+use Rattle.model.specs.Table.{Nest, Node, Row, Table, Ty, declAt, lineAt, lines, marked, markedPointer, markedUint, nestAt, nodeAt, nodeKind, nodeRoles, openAt, rowAt, rowKind, rowRoles, typeAt, typeOf}
+use Rattle.model.specs.Table.Ty.{bool, uint, pointer}
+use Rattle.model.specs.Table.Node.{variable, uintConstant, boolConstant, cell, plus, minus, less, atMost, equal, conditional, valid, classVariable, reducedCell, reducedValid, noNode}
+use Rattle.model.specs.Table.Row.{skip, assign, store, assert, assume, array, loop, loopEnd, reducedStore, reducedArray, classLoop, noRow}
+use Rattle.model.specs.Table.Nest.{opens, closes, neither}
+use Rattle.model.specs.State.{Machine, classed}
+use Rattle.model.specs.State.Machine.{plain, reduced}
+use Rattle.model.specs.Accepted.{Accepted, allThere, endsOpen, isReduced, known, markedNode, markedRow, nodeMarked, nodeThere, nodeType, nodeTyped, noneOpen, rowMarked, rowOpened, rowThere, rowTyped, sameTy, tyNumber, typeBy, typedNode, typedRow}
+use Rattle.model.proofs.Nested.{Nested}
+use Rattle.model.proofs.MatchEval.{PlainNode}
+use Rattle.model.proofs.MatchStep.{PlainRow}
+use Rattle.model.proofs.ReduceLaws.{and-left, and-right, no-node, no-row, ty-back}
+
+-- a uint or a pointer
+abbrev pub Moving : Ty → Type 0
+Moving bool = ⊥
+Moving uint = Unit {0}
+Moving pointer = Unit {0}
+
+-- what a kind asks of its operands, and gives, by the type of each node
+abbrev pub Fits : Machine → Table → (ℕ → Ty) → Node → ℕ → ℕ → ℕ → ℕ → Type 0
+Fits m t ty variable a b c n = (a < t .decls) × (classed m t a ≡ false) × (typeAt t a ≡ ty n)
+Fits m t ty uintConstant a b c n = uint ≡ ty n
+Fits m t ty boolConstant a b c n = bool ≡ ty n
+Fits m t ty cell a b c n = (a < n) × (ty a ≡ pointer) × (uint ≡ ty n) × (m ≡ plain)
+Fits m t ty plus a b c n = (a < n) × (b < n) × (ty a ≡ ty n) × Moving (ty n) × (ty b ≡ uint)
+Fits m t ty minus a b c n = (a < n) × (b < n) × (ty a ≡ ty n) × Moving (ty n) × (ty b ≡ uint)
+Fits m t ty less a b c n = (a < n) × (b < n) × (ty a ≡ uint) × (ty b ≡ uint) × (bool ≡ ty n)
+Fits m t ty atMost a b c n = (a < n) × (b < n) × (ty a ≡ uint) × (ty b ≡ uint) × (bool ≡ ty n)
+Fits m t ty equal a b c n = (a < n) × (b < n) × (ty a ≡ uint) × (ty b ≡ uint) × (bool ≡ ty n)
+Fits m t ty conditional a b c n = (a < n) × (b < n) × (c < n) × (ty a ≡ bool) × (ty b ≡ ty n) × (ty c ≡ ty n)
+Fits m t ty valid a b c n = (a < n) × (ty a ≡ pointer) × (bool ≡ ty n)
+Fits m t ty classVariable a b c n = (a < t .decls) × (classed m t a ≡ true) × (uint ≡ ty n)
+Fits m t ty reducedCell a b c n = (a < n) × (ty a ≡ pointer) × (uint ≡ ty n)
+Fits m t ty reducedValid a b c n = (a < n) × (ty a ≡ pointer) × (bool ≡ ty n)
+Fits m t ty noNode a b c n = ⊥
+
+abbrev pub RowFits : Machine → Table → (ℕ → Ty) → Row → ℕ → ℕ → ℕ → Type 0
+RowFits m t ty skip a b c = Unit {0}
+RowFits m t ty assign a b c = (a < t .decls) × (b < t .nodes) × (ty b ≡ typeAt t a) × (classed m t a ≡ false)
+RowFits m t ty store a b c = (a < t .nodes) × (b < t .nodes) × (ty a ≡ pointer) × (ty b ≡ uint) × (m ≡ plain)
+RowFits m t ty assert a b c = (a < t .nodes) × (ty a ≡ bool)
+RowFits m t ty assume a b c = (a < t .nodes) × (ty a ≡ bool)
+RowFits m t ty array a b c = (a < t .decls) × (b < t .nodes) × (ty b ≡ uint) × (typeAt t a ≡ pointer) × (classed m t a ≡ false)
+RowFits m t ty loop a b c = (b < t .nodes) × (c < t .nodes) × (ty b ≡ uint) × (ty c ≡ uint) × (a < t .decls) × (typeAt t a ≡ uint) × (classed m t a ≡ false)
+RowFits m t ty loopEnd a b c = Unit {0}
+RowFits m t ty reducedStore a b c = (a < t .nodes) × (b < t .nodes) × (ty a ≡ pointer) × (ty b ≡ uint)
+RowFits m t ty reducedArray a b c = (a < t .decls) × (b < t .nodes) × (ty b ≡ uint) × (typeAt t a ≡ pointer) × (classed m t a ≡ false) × (m ≡ reduced)
+RowFits m t ty classLoop a b c = (b < t .nodes) × (c < t .nodes) × (ty b ≡ uint) × (ty c ≡ uint) × (a < t .decls) × (typeAt t a ≡ uint) × (classed m t a ≡ true)
+RowFits m t ty noRow a b c = ⊥
+
+-- ---- from Bools
+
+same-ty : (v w : Ty) → sameTy v w ≡ true → v ≡ w
+same-ty v w e = sym (ty-back v) ∙ ap typeOf (eqb-true (tyNumber v) (tyNumber w) e) ∙ ty-back w
+
+is-moving : (v : Ty) → not (sameTy v bool) ≡ true → Moving v
+is-moving bool e = false≢true e
+is-moving uint e = tt
+is-moving pointer e = tt
+
+not-true : (b : Bool) → not b ≡ true → b ≡ false
+not-true true e = absurd (false≢true e)
+not-true false e = refl
+
+-- three tests in a row
+three : (x y z : Bool) → (x && (y && z)) ≡ true → (x ≡ true) × (y ≡ true) × (z ≡ true)
+three x y z e = (and-left x (y && z) e, and-left y z (and-right x (y && z) e), and-right y z (and-right x (y && z) e))
+
+pub marked-uint : (t : Table) (i : ℕ) → markedUint t i ≡ true → typeAt t i ≡ uint
+unfolding marked typeOf
+marked-uint t i h = rw (eqb-true (declAt t i .kind) 2 (and-left (eqb (declAt t i .kind) 2) (eqb (declAt t i .a) 1) h))
+
+pub pointer-unmarked : (t : Table) (i : ℕ) → typeAt t i ≡ pointer → markedUint t i ≡ false
+pointer-unmarked t i e = go (markedUint t i) refl
+  where
+    go : (b : Bool) → markedUint t i ≡ b → markedUint t i ≡ false
+    go true h = absurd (omega (arith, ap tyNumber (sym e ∙ marked-uint t i h)))
+    go false h = h
+
+classed-none : (m : Machine) (t : Table) (i : ℕ) → markedUint t i ≡ false → classed m t i ≡ false
+classed-none plain t i e = refl
+classed-none reduced t i e = e
+
+-- a marked uint in a reduced table: where the test excludes it, the variable holds its value
+unclassed : (m : Machine) (t : Table) (i : ℕ) → not (isReduced m && markedUint t i) ≡ true → classed m t i ≡ false
+unclassed plain t i e = refl
+unclassed reduced t i e = not-true (markedUint t i) e
+
+-- ---- which kinds a machine knows
+
+abbrev hasNode : Bool → Node → Bool
+hasNode m variable = true
+hasNode m uintConstant = true
+hasNode m boolConstant = true
+hasNode m cell = not m
+hasNode m plus = true
+hasNode m minus = true
+hasNode m less = true
+hasNode m atMost = true
+hasNode m equal = true
+hasNode m conditional = true
+hasNode m valid = not m
+hasNode m classVariable = m
+hasNode m reducedCell = m
+hasNode m reducedValid = m
+hasNode m noNode = true
+
+abbrev hasRow : Bool → Row → Bool
+hasRow m skip = true
+hasRow m assign = true
+hasRow m store = not m
+hasRow m assert = true
+hasRow m assume = true
+hasRow m array = true
+hasRow m loop = true
+hasRow m loopEnd = true
+hasRow m reducedStore = m
+hasRow m reducedArray = m
+hasRow m classLoop = m
+hasRow m noRow = true
+
+abbrev implies : Bool → Bool → Bool
+implies b c = if b then c else true
+
+has-nodes : (m : Machine) → all 43 (λ k. implies (known m k) (hasNode (isReduced m) (nodeKind k))) ≡ true
+unfolding all known nodeKind
+has-nodes plain = refl
+has-nodes reduced = refl
+
+has-rows : (m : Machine) → all 43 (λ k. implies (known m k) (hasRow (isReduced m) (rowKind k))) ≡ true
+unfolding all known rowKind
+has-rows plain = refl
+has-rows reduced = refl
+
+implied : (b c : Bool) → implies b c ≡ true → b ≡ true → c ≡ true
+implied b c e h = rw h at e
+
+has-node : (m : Machine) (k : ℕ) → known m k ≡ true → hasNode (isReduced m) (nodeKind k) ≡ true
+has-node m k h = elim (decLe 43 k) [
+  | yes l ↦ rw (no-node k l) refl
+  | no l ↦ implied (known m k) (hasNode (isReduced m) (nodeKind k)) (all-at 43 (λ k. implies (known m k) (hasNode (isReduced m) (nodeKind k))) (has-nodes m) k (omega arith)) h
+]
+
+has-row : (m : Machine) (k : ℕ) → known m k ≡ true → hasRow (isReduced m) (rowKind k) ≡ true
+has-row m k h = elim (decLe 43 k) [
+  | yes l ↦ rw (no-row k l) refl
+  | no l ↦ implied (known m k) (hasRow (isReduced m) (rowKind k)) (all-at 43 (λ k. implies (known m k) (hasRow (isReduced m) (rowKind k))) (has-rows m) k (omega arith)) h
+]
+
+is-plain : (m : Machine) → not (isReduced m) ≡ true → m ≡ plain
+is-plain plain e = refl
+is-plain reduced e = absurd (false≢true e)
+
+is-reduced : (m : Machine) → isReduced m ≡ true → m ≡ reduced
+is-reduced plain e = absurd (false≢true e)
+is-reduced reduced e = refl
+
+classed-is : (m : Machine) (t : Table) (i : ℕ) → isReduced m ≡ true → markedUint t i ≡ true → classed m t i ≡ true
+classed-is plain t i e h = absurd (false≢true e)
+classed-is reduced t i e h = h
+
+-- ---- from tests to facts
+
+module _ (m : Machine) (t : Table) (ty : ℕ → Ty) where
+  compared : (a b n : ℕ) → (ltb a n && (ltb b n && true)) ≡ true → (sameTy (ty a) uint && sameTy (ty b) uint) ≡ true → bool ≡ ty n
+      → (a < n) × (b < n) × (ty a ≡ uint) × (ty b ≡ uint) × (bool ≡ ty n)
+  compared a b n y z q =
+      let h = three (ltb a n) (ltb b n) true y in
+      (ltb-true a n (h .0), ltb-true b n (h .1), same-ty _ _ (and-left (sameTy (ty a) uint) (sameTy (ty b) uint) z), same-ty _ _ (and-right (sameTy (ty a) uint) (sameTy (ty b) uint) z), q)
+
+  -- g: the types of the nodes below n
+  fits : (k : Node) (a b c n : ℕ) (g : ℕ → Ty) → ((j : ℕ) → j < n → g j ≡ ty j) → typeBy t k a b g ≡ ty n
+      → hasNode (isReduced m) k ≡ true → allThere (nodeRoles k) (t .decls) n (record { kind = 0; a = a; b = b; c = c }) ≡ true → typedNode ty k a b c ≡ true
+      → markedNode (isReduced m) k (markedUint t a) ≡ true → Fits m t ty k a b c n
+  unfolding nodeRoles
+  fits variable a b c n g e q x y z u = (ltb-true a (t .decls) (three (ltb a (t .decls)) true true y .0), unclassed m t a u, q)
+  fits uintConstant a b c n g e q x y z u = q
+  fits boolConstant a b c n g e q x y z u = q
+  fits cell a b c n g e q x y z u = (ltb-true a n (three (ltb a n) true true y .0), same-ty _ _ z, q, is-plain m x)
+  fits plus a b c n g e q x y z u = 
+      let h = three (ltb a n) (ltb b n) true y in
+      let l : a < n = ltb-true a n (h .0) in
+      let p : ty a ≡ ty n = sym (e a l) ∙ q in
+      (l, ltb-true b n (h .1), p, subst Moving p (is-moving (ty a) (and-left (not (sameTy (ty a) bool)) (sameTy (ty b) uint) z)), same-ty _ _ (and-right (not (sameTy (ty a) bool)) (sameTy (ty b) uint) z))
+  fits minus a b c n g e q x y z u = 
+      let h = three (ltb a n) (ltb b n) true y in
+      let l : a < n = ltb-true a n (h .0) in
+      let p : ty a ≡ ty n = sym (e a l) ∙ q in
+      (l, ltb-true b n (h .1), p, subst Moving p (is-moving (ty a) (and-left (not (sameTy (ty a) bool)) (sameTy (ty b) uint) z)), same-ty _ _ (and-right (not (sameTy (ty a) bool)) (sameTy (ty b) uint) z))
+  fits less a b c n g e q x y z u = compared a b n y z q
+  fits atMost a b c n g e q x y z u = compared a b n y z q
+  fits equal a b c n g e q x y z u = compared a b n y z q
+  fits conditional a b c n g e q x y z u = 
+      let h = three (ltb a n) (ltb b n) (ltb c n) y in
+      let l : b < n = ltb-true b n (h .1) in
+      let p : ty b ≡ ty n = sym (e b l) ∙ q in
+      (ltb-true a n (h .0), l, ltb-true c n (h .2), same-ty _ _ (and-left (sameTy (ty a) bool) (sameTy (ty b) (ty c)) z), p, sym (same-ty _ _ (and-right (sameTy (ty a) bool) (sameTy (ty b) (ty c)) z)) ∙ p)
+  fits valid a b c n g e q x y z u = (ltb-true a n (three (ltb a n) true true y .0), same-ty _ _ z, q)
+  fits classVariable a b c n g e q x y z u = (ltb-true a (t .decls) (three (ltb a (t .decls)) true true y .0), classed-is m t a x u, sym (marked-uint t a u) ∙ q)
+  fits reducedCell a b c n g e q x y z u = (ltb-true a n (three (ltb a n) true true y .0), same-ty _ _ z, q)
+  fits reducedValid a b c n g e q x y z u = (ltb-true a n (three (ltb a n) true true y .0), same-ty _ _ z, q)
+  fits noNode a b c n g e q x y z u = false≢true z
+
+  stored : (a b : ℕ) → (ltb a (t .nodes) && (ltb b (t .nodes) && true)) ≡ true → (sameTy (ty a) pointer && sameTy (ty b) uint) ≡ true
+      → (a < t .nodes) × (b < t .nodes) × (ty a ≡ pointer) × (ty b ≡ uint)
+  stored a b y z =
+      let h = three (ltb a (t .nodes)) (ltb b (t .nodes)) true y in
+      (ltb-true a (t .nodes) (h .0), ltb-true b (t .nodes) (h .1), same-ty _ _ (and-left (sameTy (ty a) pointer) (sameTy (ty b) uint) z), same-ty _ _ (and-right (sameTy (ty a) pointer) (sameTy (ty b) uint) z))
+
+  laid-out : (a b : ℕ) → (ltb a (t .decls) && (ltb b (t .nodes) && true)) ≡ true → (sameTy (typeAt t a) pointer && sameTy (ty b) uint) ≡ true
+      → (a < t .decls) × (b < t .nodes) × (ty b ≡ uint) × (typeAt t a ≡ pointer) × (classed m t a ≡ false)
+  laid-out a b y z =
+      let h = three (ltb a (t .decls)) (ltb b (t .nodes)) true y in
+      let p : typeAt t a ≡ pointer = same-ty _ _ (and-left (sameTy (typeAt t a) pointer) (sameTy (ty b) uint) z) in
+      (ltb-true a (t .decls) (h .0), ltb-true b (t .nodes) (h .1), same-ty _ _ (and-right (sameTy (typeAt t a) pointer) (sameTy (ty b) uint) z), p, classed-none m t a (pointer-unmarked t a p))
+
+  looped : (a b c : ℕ) (d : Bool) → (ltb a (t .decls) && (ltb b (t .nodes) && ltb c (t .nodes))) ≡ true → (sameTy (typeAt t a) uint && (sameTy (ty b) uint && sameTy (ty c) uint)) ≡ true
+      → classed m t a ≡ d → (b < t .nodes) × (c < t .nodes) × (ty b ≡ uint) × (ty c ≡ uint) × (a < t .decls) × (typeAt t a ≡ uint) × (classed m t a ≡ d)
+  looped a b c d y z u =
+      let h = three (ltb a (t .decls)) (ltb b (t .nodes)) (ltb c (t .nodes)) y in
+      let p = three (sameTy (typeAt t a) uint) (sameTy (ty b) uint) (sameTy (ty c) uint) z in
+      (ltb-true b (t .nodes) (h .1), ltb-true c (t .nodes) (h .2), same-ty _ _ (p .1), same-ty _ _ (p .2), ltb-true a (t .decls) (h .0), same-ty _ _ (p .0), u)
+
+  row-fits : (k : Row) (a b c : ℕ) → hasRow (isReduced m) k ≡ true → allThere (rowRoles k) (t .decls) (t .nodes) (record { kind = 0; a = a; b = b; c = c }) ≡ true
+      → typedRow (typeAt t) ty k a b c ≡ true → markedRow (isReduced m) k (markedUint t a) (markedPointer t a) ≡ true → RowFits m t ty k a b c
+  unfolding rowRoles
+  row-fits skip a b c x y z u = tt
+  row-fits assign a b c x y z u = 
+      let h = three (ltb a (t .decls)) (ltb b (t .nodes)) true y in
+      (ltb-true a (t .decls) (h .0), ltb-true b (t .nodes) (h .1), same-ty _ _ z, classed-none m t a (not-true (markedUint t a) u))
+  row-fits store a b c x y z u = let s = stored a b y z in (s .0, s .1, s .2, s .3, is-plain m x)
+  row-fits assert a b c x y z u = (ltb-true a (t .nodes) (three (ltb a (t .nodes)) true true y .0), same-ty _ _ z)
+  row-fits assume a b c x y z u = (ltb-true a (t .nodes) (three (ltb a (t .nodes)) true true y .0), same-ty _ _ z)
+  row-fits array a b c x y z u = laid-out a b y z
+  row-fits loop a b c x y z u = looped a b c false y z (unclassed m t a u)
+  row-fits loopEnd a b c x y z u = tt
+  row-fits reducedStore a b c x y z u = stored a b y z
+  row-fits reducedArray a b c x y z u = let s = laid-out a b y z in (s .0, s .1, s .2, s .3, s .4, is-reduced m x)
+  row-fits classLoop a b c x y z u = looped a b c true y z (classed-is m t a x u)
+  row-fits noRow a b c x y z u = false≢true z
+
+-- ---- of an accepted table
+
+none-is : (os : List ℕ) → noneOpen os ≡ true → os ≡ []
+none-is [] h = refl
+none-is (o ∷ os) h = absurd (false≢true h)
+
+some-is : (n : Nest) (os : List ℕ) → endsOpen n os ≡ true → n ≡ closes → (o : ℕ) × (rest : List ℕ) × (os ≡ o ∷ rest)
+some-is opens os h e = absurd (let z : _≡_ {A = ℕ} 0 1 = cc in omega arith)
+some-is closes [] h e = absurd (false≢true h)
+some-is closes (o ∷ os) h e = (o, os, refl)
+some-is neither os h e = absurd (let z : _≡_ {A = ℕ} 0 1 = cc in omega arith)
+
+module _ (m : Machine) (t : Table) (A : Accepted m t) where
+  -- a line past the end is no line
+  no-line : (i : ℕ) → lines t ≤ i → lineAt (t .words) i .kind ≡ 0
+  no-line i h = List·getD-eq-default (t .words) 0 {n = 4 * i} (omega (arith, A .whole))
+
+  line-known : (i : ℕ) → i < lines t → known m (lineAt (t .words) i .kind) ≡ true
+  line-known i h = all-at (lines t) (λ i. known m (lineAt (t .words) i .kind)) (A .kinds) i h
+
+  line-node : (i : ℕ) → hasNode (isReduced m) (nodeKind (lineAt (t .words) i .kind)) ≡ true
+  unfolding nodeKind
+  line-node i = elim (decLe (lines t) i) [ yes h ↦ rw (no-line i h) refl | no h ↦ has-node m (lineAt (t .words) i .kind) (line-known i (omega arith)) ]
+
+  line-row : (i : ℕ) → hasRow (isReduced m) (rowKind (lineAt (t .words) i .kind)) ≡ true
+  unfolding rowKind
+  line-row i = elim (decLe (lines t) i) [ yes h ↦ rw (no-line i h) refl | no h ↦ has-row m (lineAt (t .words) i .kind) (line-known i (omega arith)) ]
+
+  type-is : (n : ℕ) → nodeType t n ≡ typeBy t (nodeKind (nodeAt t n .kind)) (nodeAt t n .a) (nodeAt t n .b) (λ j. if ltb j n then nodeType t j else bool)
+  unfolding nodeType
+  type-is n = value-is (λ m ty. typeBy t (nodeKind (nodeAt t m .kind)) (nodeAt t m .a) (nodeAt t m .b) ty) bool n
+
+  pub node-fits : (n : ℕ) → n < t .nodes → Fits m t (nodeType t) (nodeKind (nodeAt t n .kind)) (nodeAt t n .a) (nodeAt t n .b) (nodeAt t n .c) n
+  unfolding nodeThere nodeTyped nodeMarked
+  node-fits n h =
+      fits m t (nodeType t) (nodeKind (nodeAt t n .kind)) (nodeAt t n .a) (nodeAt t n .b) (nodeAt t n .c) n (λ j. if ltb j n then nodeType t j else bool)
+      (λ j l. rw (lt-ltb j n l)) (sym (type-is n)) (line-node (t .decls + n))
+      (all-at (t .nodes) (nodeThere t) (A .nodesThere) n h) (all-at (t .nodes) (nodeTyped t) (A .nodesTyped) n h) (all-at (t .nodes) (nodeMarked m t) (A .nodesMarked) n h)
+
+  pub rows-fit : (r : ℕ) → r < t .rows → RowFits m t (nodeType t) (rowKind (rowAt t r .kind)) (rowAt t r .a) (rowAt t r .b) (rowAt t r .c)
+  unfolding rowThere rowTyped rowMarked
+  rows-fit r h =
+      row-fits m t (nodeType t) (rowKind (rowAt t r .kind)) (rowAt t r .a) (rowAt t r .b) (rowAt t r .c) (line-row (t .decls + t .nodes + r))
+      (all-at (t .rows) (rowThere t) (A .rowsThere) r h) (all-at (t .rows) (rowTyped t) (A .rowsTyped) r h) (all-at (t .rows) (rowMarked m t) (A .rowsMarked) r h)
+
+  pub is-nested : Nested t
+  unfolding rowOpened
+  is-nested = record {
+    closed = none-is (openAt t (t .rows)) (A .loopsClosed);
+    some = λ r h e. some-is (nestAt t r) (openAt t r) (all-at (t .rows) (rowOpened t) (A .endsOpened) r h) e;
+  }
+
+-- ---- of an accepted plain table, at every number
+
+plain-node : (k : Node) → hasNode false k ≡ true → PlainNode k
+plain-node variable h = tt
+plain-node uintConstant h = tt
+plain-node boolConstant h = tt
+plain-node cell h = tt
+plain-node plus h = tt
+plain-node minus h = tt
+plain-node less h = tt
+plain-node atMost h = tt
+plain-node equal h = tt
+plain-node conditional h = tt
+plain-node valid h = tt
+plain-node classVariable h = false≢true h
+plain-node reducedCell h = false≢true h
+plain-node reducedValid h = false≢true h
+plain-node noNode h = tt
+
+plain-row : (t : Table) (ty : ℕ → Ty) (k : Row) (a b c : ℕ) → hasRow false k ≡ true → typedRow (typeAt t) ty k a b c ≡ true
+    → markedRow false k (markedUint t a) (markedPointer t a) ≡ true → PlainRow t k a
+plain-row t ty skip a b c h z u = tt
+plain-row t ty assign a b c h z u = not-true (markedUint t a) u
+plain-row t ty store a b c h z u = tt
+plain-row t ty assert a b c h z u = tt
+plain-row t ty assume a b c h z u = tt
+plain-row t ty array a b c h z u = pointer-unmarked t a (same-ty _ _ (and-left (sameTy (typeAt t a) pointer) (sameTy (ty b) uint) z))
+plain-row t ty loop a b c h z u = tt
+plain-row t ty loopEnd a b c h z u = tt
+plain-row t ty reducedStore a b c h z u = false≢true h
+plain-row t ty reducedArray a b c h z u = false≢true h
+plain-row t ty classLoop a b c h z u = false≢true h
+plain-row t ty noRow a b c h z u = tt
+
+module _ (t : Table) (A : Accepted plain t) where
+  pub plain-nodes : (n : ℕ) → PlainNode (nodeKind (nodeAt t n .kind))
+  plain-nodes n = plain-node (nodeKind (nodeAt t n .kind)) (line-node plain t A (t .decls + n))
+
+  pub plain-rows : (r : ℕ) → PlainRow t (rowKind (rowAt t r .kind)) (rowAt t r .a)
+  unfolding rowTyped rowMarked rowKind
+  plain-rows r = elim (decLe (t .rows) r) [
+    | yes h ↦ rw (no-line plain t A (t .decls + t .nodes + r) (omega arith)) tt
+    | no h ↦ plain-row t (nodeType t) (rowKind (rowAt t r .kind)) (rowAt t r .a) (rowAt t r .b) (rowAt t r .c) (line-row plain t A (t .decls + t .nodes + r))
+        (all-at (t .rows) (rowTyped t) (A .rowsTyped) r (omega arith)) (all-at (t .rows) (rowMarked plain t) (A .rowsMarked) r (omega arith))
+  ]
