@@ -11,7 +11,7 @@ use lib.ListN.{length, getD, length-append, List·getD-append, List·getD-eq-def
 use lib.Seq.{getD-at}
 use lib.Dec.{ltb}
 use borrow.Author.Tests.{ltb-true, ltb-false}
-use Rattle.lists.specs.Choice.{if_then_else_}
+use Rattle.lists.specs.If.{if_then_else_}
 use Rattle.lists.specs.Falling.{valuesBelow, valueAt}
 
 module _ {A : Type 0} (s : ℕ → (ℕ → A) → A) (d : A) where

@@ -9,19 +9,19 @@ use mathlib.Core.Bool.{Bool, true, false, true≢false}
 use mathlib.Core.List.{List, [], _∷_, _++_}
 use lib.ListN.{length, getD, set, length-set}
 use lib.Seq.{getD-set-same, getD-set-other}
-use Rattle.lists.specs.Choice.{if_then_else_}
+use Rattle.lists.specs.If.{if_then_else_}
 use Rattle.model.specs.Class.{class, tracked}
 use Rattle.model.specs.Table.{Table, markedUint}
 use Rattle.model.specs.State.{Array, Value, mostArrays}
 use Rattle.model.specs.State.Value.{Uint}
 use Rattle.model.specs.Eval.{indexOf, keeps, noArray, sizeOf, used}
 use Rattle.model.specs.Step.{cleared, made}
-use Rattle.model.specs.Agree.{Sees, arrayAt}
+use Rattle.model.specs.Agree.{SameVariable, arrayAt}
 use Rattle.model.proofs.ClassLaws.{class-above, class-own}
 use Rattle.model.proofs.Memory.{cleared-before, cleared-in, cleared-length, inside, inside-used, laid-set, laid-snoc, same-cell, snoc-length, snoc-new, snoc-old, used-snoc}
 use Rattle.model.proofs.Linked.{LinkedMemory, LinkedVars}
 
-pub vars-set : (ps : List ℕ) (t : Table) {pv rv : List Value} → LinkedVars ps t pv rv → (a : ℕ) (v w : Value) → Sees ps (markedUint t a) v w
+pub vars-set : (ps : List ℕ) (t : Table) {pv rv : List Value} → LinkedVars ps t pv rv → (a : ℕ) (v w : Value) → SameVariable ps (markedUint t a) v w
     → LinkedVars ps t (set pv a v) (set rv a w)
 vars-set ps t {pv} {rv} A a v w s = record {
   number = simp length-set (A .number);

@@ -12,4 +12,6 @@ pub mod MatchRun
 pub mod WriterLaws
 pub mod ReduceLaws
 pub mod Typing
+pub mod Safe
+pub mod SafeStep
 pub mod ExampleProof

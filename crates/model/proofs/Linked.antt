@@ -9,12 +9,12 @@ use Rattle.model.specs.Table.{Table, markedUint}
 use Rattle.model.specs.State.{Array, State, Value, mostArrays}
 use Rattle.model.specs.State.Value.{Uint}
 use Rattle.model.specs.Eval.{indexOf, keeps, used}
-use Rattle.model.specs.Agree.{Agree, Sees, arrayAt}
+use Rattle.model.specs.Agree.{Agree, SameVariable, arrayAt}
 use Rattle.model.specs.Accepted.{Laid}
 
 pub record LinkedVars (ps : List ℕ) (t : Table) (pv rv : List Value) : Type 0 where
   pub number : length rv ≡ length pv
-  pub variable : (i : ℕ) → i < length pv → Sees ps (markedUint t i) (getD pv i (Uint 0)) (getD rv i (Uint 0))
+  pub variable : (i : ℕ) → i < length pv → SameVariable ps (markedUint t i) (getD pv i (Uint 0)) (getD rv i (Uint 0))
 
 -- ks says which arrays the reduced run holds reduced; the reduced run has a cell more for each array that there may be
 pub record LinkedMemory (ps : List ℕ) (ks : List Bool) (pa : List Array) (pc : List ℕ) (ra : List Array) (rc : List ℕ) : Type 0 where

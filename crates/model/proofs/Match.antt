@@ -4,7 +4,7 @@ use mathlib.Core.Path.{_≡_, refl, sym, ap, _∙_}
 use Prim.Native.Nat.{ℕ}
 use mathlib.Core.Bool.{Bool, true, false}
 use mathlib.Core.List.{List, [], _∷_, _++_, append-assoc, append-nil}
-use Rattle.lists.specs.Choice.{if_then_else_}
+use Rattle.lists.specs.If.{if_then_else_}
 use Rattle.model.specs.Work.{Out, Work, _>>=_, fail, give, next, wrong}
 use Rattle.model.specs.Work.Out.{gives, fails, stuck}
 use Rattle.model.specs.Writer.{given}

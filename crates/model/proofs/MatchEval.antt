@@ -8,7 +8,7 @@ use mathlib.Core.List.{List, [], _∷_, _++_, append-assoc, append-nil}
 use lib.ListN.{length, getD}
 use lib.Dec.{ltb, leb, eqb}
 use borrow.Author.Tests.{ltb-true, ltb-false, lt-ltb, le-ltb, eq-eqb}
-use Rattle.lists.specs.Choice.{if_then_else_}
+use Rattle.lists.specs.If.{if_then_else_}
 use Rattle.model.specs.Class.{class}
 use Rattle.model.specs.Table.{Node, Table, Ty, markedUint, nodeAt, nodeKind}
 use Rattle.model.specs.Table.Ty.{bool, uint, pointer}
@@ -17,9 +17,9 @@ use Rattle.model.specs.Work.{Work, _>>=_}
 use Rattle.model.specs.Work.Out.{gives}
 use Rattle.model.specs.State.{State, Value, most}
 use Rattle.model.specs.State.Value.{Truth, Uint, Class, Pointer}
-use Rattle.model.specs.Eval.{Of, Ptr, add, asBool, asPointer, asUint, bools, cellOf, compare, eval, evalF, indexOf, isValid, keeps, load, ofType, present, reducedLoad, rule, shift, sizeOf, storeOf, subtract, uints, variableOf}
-use Rattle.model.specs.Agree.{Sees, arrayAt}
-use Rattle.model.specs.Writer.{choicesF, choicesRule, given, loadChoices, nodeChoices, numberOf}
+use Rattle.model.specs.Eval.{Of, Ptr, add, asBool, asPointer, asUint, bools, cellOf, compare, evalF, indexOf, isValid, keeps, load, ofType, present, reducedLoad, rule, sizeOf, storeOf, subtract, sumOrDifference, uints, variableOf}
+use Rattle.model.specs.Agree.{SameVariable, arrayAt}
+use Rattle.model.specs.Writer.{choicesF, choicesRule, given, loadChoices, numberOf}
 use Rattle.model.proofs.Match.{Match, Still, match-bind, match-if, match-last, match-still, match-then, match-wrong, still-bind, still-fail, still-give, still-if, still-wrong}
 use Rattle.model.proofs.Match.Answer.{value, failure, nothing}
 use Rattle.model.proofs.Memory.{inside}
@@ -102,11 +102,11 @@ match-bools bool x = x
 match-bools uint x = match-wrong
 match-bools pointer x = match-wrong
 
-match-shift : (op : ℕ → ℕ → Work ℕ) → ((x y : ℕ) → Still (op x y)) → (w : Ty) {m r : Work (Of w)} {n q : Work ℕ} {xs ys : List ℕ} → Match m r xs → Match n q ys
-    → Match (shift op w m n) (shift op w r q) (xs ++ given (m []) (λ x. ys))
-match-shift op h bool x y = match-wrong
-match-shift op h uint x y = match-bind x (λ a. match-then y (λ b. h a b))
-match-shift op h pointer x y = match-bind x (λ p. match-then y (λ b. still-bind (h (p .place) b) (λ z. still-give _)))
+match-sumOrDifference : (op : ℕ → ℕ → Work ℕ) → ((x y : ℕ) → Still (op x y)) → (w : Ty) {m r : Work (Of w)} {n q : Work ℕ} {xs ys : List ℕ} → Match m r xs → Match n q ys
+    → Match (sumOrDifference op w m n) (sumOrDifference op w r q) (xs ++ given (m []) (λ x. ys))
+match-sumOrDifference op h bool x y = match-wrong
+match-sumOrDifference op h uint x y = match-bind x (λ a. match-then y (λ b. h a b))
+match-sumOrDifference op h pointer x y = match-bind x (λ p. match-then y (λ b. still-bind (h (p .place) b) (λ z. still-give _)))
 
 match-compare : (test : ℕ → ℕ → Bool) {m r n q : Work ℕ} {xs ys : List ℕ} → Match m r xs → Match n q ys → Match (compare test m n) (compare test r q) (xs ++ given (m []) (λ x. ys))
 match-compare test x y = match-bind x (λ a. match-then y (λ b. still-give _))
@@ -135,7 +135,7 @@ module _ (ps : List ℕ) (t : Table) (ks : List Bool) (p r : State) (A : Linked 
       go : (w : Ty) (m : Bool) → markedUint t a ≡ m → (d : Bool) → ltb a (length (p .vars)) ≡ d
           → Match (variableOf (p .vars) a >>= ofType w) (rule ps (storeOf r) w (if m then classVariable else variable) a b c ev) (if m then given (variableOf (p .vars) a []) numberOf else [])
       go w true e true f =
-          let s : Sees ps true (getD (p .vars) a (Uint 0)) (getD (r .vars) a (Uint 0)) = rw e at (A .vars .variable a (ltb-true a _ f)) in
+          let s : SameVariable ps true (getD (p .vars) a (Uint 0)) (getD (r .vars) a (Uint 0)) = rw e at (A .vars .variable a (ltb-true a _ f)) in
           classed w f (s .0) (s .1) (s .2)
       go bool true e false f = record { answer = nothing; plain = λ cs. simp f; matched = λ cs. refl }
       go uint true e false f = record { answer = nothing; plain = λ cs. simp f; matched = λ cs. simp (A .vars .number, f) }
@@ -208,15 +208,15 @@ module _ (ps : List ℕ) (t : Table) (ks : List Bool) (p r : State) (A : Linked 
   match-present uint v = match-still (still-give _)
   match-present pointer v = rw (A .memory .number) (match-still (still-if (leb (v .array) (length (p .arrays))) (still-give _) still-wrong))
 
-  match-rule : (w : Ty) (k : Node) → PlainNode k → (a b c : ℕ) {ev ev′ : (v : Ty) → ℕ → Work (Of v)} {ask : Ty → ℕ → List ℕ} → ((v : Ty) (m : ℕ) → Match (ev v m) (ev′ v m) (ask v m))
-      → Match (rule [] (storeOf p) w k a b c ev) (rule ps (storeOf r) w (reducedNode (markedUint t a) k) a b c ev′) (choicesRule ps t ks p w k a b c ev ask)
+  match-rule : (w : Ty) (k : Node) → PlainNode k → (a b c : ℕ) {ev ev′ : (v : Ty) → ℕ → Work (Of v)} {choicesOf : Ty → ℕ → List ℕ} → ((v : Ty) (m : ℕ) → Match (ev v m) (ev′ v m) (choicesOf v m))
+      → Match (rule [] (storeOf p) w k a b c ev) (rule ps (storeOf r) w (reducedNode (markedUint t a) k) a b c ev′) (choicesRule ps t ks p w k a b c ev choicesOf)
   unfolding rule choicesRule
   match-rule w variable h a b c ih = match-variable w a b c _
   match-rule w uintConstant h a b c ih = match-uints w (match-still (still-give _))
   match-rule w boolConstant h a b c ih = match-bools w (match-still (still-give _))
   match-rule w cell h a b c ih = match-uints w (match-bind (ih pointer a) match-load)
-  match-rule w plus h a b c ih = match-shift add still-add w (ih w a) (ih uint b)
-  match-rule w minus h a b c ih = match-shift subtract still-subtract w (ih w a) (ih uint b)
+  match-rule w plus h a b c ih = match-sumOrDifference add still-add w (ih w a) (ih uint b)
+  match-rule w minus h a b c ih = match-sumOrDifference subtract still-subtract w (ih w a) (ih uint b)
   match-rule w less h a b c ih = match-bools w (match-compare ltb (ih uint a) (ih uint b))
   match-rule w atMost h a b c ih = match-bools w (match-compare leb (ih uint a) (ih uint b))
   match-rule w equal h a b c ih = match-bools w (match-compare eqb (ih uint a) (ih uint b))
@@ -236,14 +236,10 @@ pub record Reduces (t u : Table) : Type 0 where
   pub c : (n : ℕ) → nodeAt u n .c ≡ nodeAt t n .c
 
 module _ (ps : List ℕ) (t u : Table) (R : Reduces t u) (ks : List Bool) (p r : State) (A : Linked ps t ks p r) where
-  match-evalF : (f : ℕ) (w : Ty) (n : ℕ) → Match (evalF [] (storeOf p) t f w n) (evalF ps (storeOf r) u f w n) (choicesF ps t ks p f w n)
+  pub match-evalF : (f : ℕ) (w : Ty) (n : ℕ) → Match (evalF [] (storeOf p) t f w n) (evalF ps (storeOf r) u f w n) (choicesF ps t ks p f w n)
   unfolding evalF choicesF
   match-evalF zero w n = match-still still-wrong
   match-evalF (suc f) w n =
       rw (R .kind n, R .a n, R .b n, R .c n)
       (match-last (match-rule ps t ks p r A w (nodeKind (nodeAt t n .kind)) (R .plain n) (nodeAt t n .a) (nodeAt t n .b) (nodeAt t n .c)
       (λ v m. match-if (ltb m n) (match-evalF f v m) (match-still still-wrong))) (match-present ps t ks p r A w))
-
-  pub match-eval : (w : Ty) (n : ℕ) → Match (eval [] (storeOf p) t w n) (eval ps (storeOf r) u w n) (nodeChoices ps t ks p w n)
-  unfolding eval nodeChoices
-  match-eval w n = match-evalF (suc n) w n

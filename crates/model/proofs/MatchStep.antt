@@ -9,7 +9,7 @@ use lib.ListN.{length, getD, set, List·getD-eq-default}
 use native.Mathlib.Decide.{decLe}
 use lib.Dec.{ltb, leb, eqb}
 use borrow.Author.Tests.{ltb-true, ltb-false, leb-true, leb-false, lt-ltb, le-ltb, le-leb, lt-leb, eq-eqb}
-use Rattle.lists.specs.Choice.{if_then_else_}
+use Rattle.lists.specs.If.{if_then_else_}
 use Rattle.lists.specs.First.{walk}
 use Rattle.model.specs.Class.{class}
 use Rattle.model.specs.Table.{Row, Table, Ty, markedPointer, markedUint, matchingEnd, nestAt, nestOf, rowAt, rowKind, scanned, typeAt}
@@ -20,17 +20,17 @@ use Rattle.model.specs.Work.Out.{gives}
 use Rattle.model.specs.State.{Array, Loop, State, Value, mostArrays, sortOf}
 use Rattle.model.specs.State.Value.{Uint, Class, Pointer}
 use Rattle.model.specs.Eval.{Ptr, eval, indexOf, keeps, sizeOf, storeOf, used, value}
-use Rattle.model.specs.Step.{End, Move, addArray, again, enter, goTo, loopAt, newArray, node, past, pastEnd, put, reducedWrite, rowRule, setVar, step, stepAt, withCell, withLoops, withVar, write}
+use Rattle.model.specs.Step.{End, Move, addArray, enter, goTo, loopAt, newArray, node, past, pastEnd, put, reducedWrite, repeatLoop, rowRule, setVar, step, stepAt, withCell, withLoops, withVar, write}
 use Rattle.model.specs.Step.End.{assertFalse, assumeFalse, wantOfCells}
 use Rattle.model.specs.Step.Move.{to, stop}
-use Rattle.model.specs.Agree.{Sees, arrayAt}
-use Rattle.model.specs.Writer.{againChoices, heldAfter, loopChoices, nodeChoices, rowChoices, stepChoices, storeChoices}
-use Rattle.model.proofs.Match.{Match, Matches, match-still, match-wrong, matches-bind, matches-give, matches-last, matches-with, matches-wrong, still-give, still-if, still-wrong}
+use Rattle.model.specs.Agree.{SameVariable, arrayAt}
+use Rattle.model.specs.Writer.{heldAfter, loopChoices, nodeChoices, repeatChoices, rowChoices, stepChoices, storeChoices}
+use Rattle.model.proofs.Match.{Match, Matches, match-if, match-still, matches-bind, matches-give, matches-last, matches-with, matches-wrong, still-give, still-if, still-wrong}
 use Rattle.model.proofs.Match.Both.{values, failures, nothings}
 use Rattle.model.proofs.Memory.{inside}
 use Rattle.model.proofs.Linked.{Linked, LinkedMemory}
 use Rattle.model.proofs.Keep.{index-in, memory-drop, memory-new, memory-write, vars-set}
-use Rattle.model.proofs.MatchEval.{Reduces, match-eval, still-add}
+use Rattle.model.proofs.MatchEval.{Reduces, match-evalF, still-add}
 
 -- the kind that a row becomes, if its variable is a marked uint (u), or a marked pointer (q)
 abbrev pub reducedRow : Bool → Bool → Row → Row
@@ -111,7 +111,7 @@ module _ (t u : Table) (R : ReducesRows t u) where
       (rw (same-end r) (match-still (still-if (ltb (matchingEnd t r) (t .rows)) (still-give _) still-wrong)))
 
 -- two classes, or a value and itself, have one sort
-sort-seen : (ps : List ℕ) (b : Bool) (v w o q : Value) → Sees ps b v w → Sees ps b o q → eqb (sortOf w) (sortOf q) ≡ eqb (sortOf v) (sortOf o)
+sort-seen : (ps : List ℕ) (b : Bool) (v w o q : Value) → SameVariable ps b v w → SameVariable ps b o q → eqb (sortOf w) (sortOf q) ≡ eqb (sortOf v) (sortOf o)
 sort-seen ps false v w o q x y = rw (x, y)
 sort-seen ps true v w o q x y = rw (ap sortOf (x .1), ap sortOf (x .2), ap sortOf (y .1), ap sortOf (y .2))
 
@@ -128,7 +128,7 @@ chosen ps false q cs = refl
 
 module _ (ps : List ℕ) (t u : Table) (R : ReducesRows t u) (ks : List Bool) where
   -- a variable set
-  match-set : {p r : State} → Linked ps t ks p r → (a : ℕ) (v w : Value) → Sees ps (markedUint t a) v w → Matches (Linked ps t ks) (setVar p a v) (setVar r a w) []
+  match-set : {p r : State} → Linked ps t ks p r → (a : ℕ) (v w : Value) → SameVariable ps (markedUint t a) v w → Matches (Linked ps t ks) (setVar p a v) (setVar r a w) []
   match-set {p} {r} A a v w s = go (ltb a (length (p .vars))) refl (eqb (sortOf v) (sortOf (getD (p .vars) a (Uint 0)))) refl
     where
       linked : Linked ps t ks (withVar p a v) (withVar r a w)
@@ -153,7 +153,7 @@ module _ (ps : List ℕ) (t u : Table) (R : ReducesRows t u) (ks : List Bool) wh
   linked-past : {p r : State} → Linked ps t ks p r → Linked ps t ks (past p) (past r)
   linked-past A = record { row = ap suc (A .row); loops = A .loops; vars = A .vars; memory = A .memory }
 
-  match-enter : {p r : State} → Linked ps t ks p r → (n : ℕ) (v w : Value) → Sees ps (markedUint t (rowAt t n .a)) v w → (x y : ℕ)
+  match-enter : {p r : State} → Linked ps t ks p r → (n : ℕ) (v w : Value) → SameVariable ps (markedUint t (rowAt t n .a)) v w → (x y : ℕ)
       → {out out′ : Work ℕ} → Match out out′ [] → Matches (Moves (Linked ps t ks)) (enter t p n v x y out) (enter u r n w x y out′) []
   match-enter {p} {r} A n v w s x y {out} {out′} o = rw (R .a n) (matches-with (match-set A (rowAt t n .a) v w s) (λ p′ r′ A′. go p′ r′ A′ (leb x y)))
     where
@@ -197,10 +197,10 @@ module _ (ps : List ℕ) (t u : Table) (R : ReducesRows t u) (ks : List Bool) wh
   match-loop A n classLoop h x y o = absurd h
   match-loop A n noRow h x y o = matches-wrong
 
-  match-again : {p r : State} → Linked ps t ks p r → (ls : List Loop)
-      → Matches (Moves (Linked ps t ks)) (again [] t p ls) (again ps u r ls) (againChoices ps t ks p ls)
-  match-again A [] = matches-wrong
-  match-again {p} {r} A (l ∷ ls) =
+  match-repeatLoop : {p r : State} → Linked ps t ks p r → (ls : List Loop)
+      → Matches (Moves (Linked ps t ks)) (repeatLoop [] t p ls) (repeatLoop ps u r ls) (repeatChoices ps t ks p ls)
+  match-repeatLoop A [] = matches-wrong
+  match-repeatLoop {p} {r} A (l ∷ ls) =
       matches-bind (match-still (still-add (l .start) 1))
       (λ x. rw (R .kind (l .row))
       (match-loop {p = withLoops p ls} {r = withLoops r ls} (record { row = A .row; loops = refl; vars = A .vars; memory = A .memory }) (l .row) (rowKind (rowAt t (l .row) .kind)) (R .plain (l .row)) x (l .end)
@@ -290,11 +290,10 @@ module _ (ps : List ℕ) (t u : Table) (R : ReducesRows t u) (ks : List Bool) (s
       (λ p′ r′ A′. matches-give (match-add A′ n f))
 
   match-node : {p r : State} → Linked ps t ks p r → (w : Ty) (n : ℕ) → Match (node [] t p w n) (node ps u r w n) (nodeChoices ps t ks p w n)
-  match-node {p} {r} A w n = subst (λ k. Match (node [] t p w n) (if ltb n k then eval ps (storeOf r) u w n else wrong) (nodeChoices ps t ks p w n)) (sym (R .count)) (go (ltb n (t .nodes)))
-    where
-      go : (b : Bool) → Match (if b then eval [] (storeOf p) t w n else wrong) (if b then eval ps (storeOf r) u w n else wrong) (nodeChoices ps t ks p w n)
-      go true = match-eval ps t u (R .nodes) ks p r A w n
-      go false = match-wrong
+  unfolding eval nodeChoices
+  match-node {p} {r} A w n =
+      subst (λ (k : ℕ). Match (node [] t p w n) (if ltb n k then eval ps (storeOf r) u w n else wrong) (nodeChoices ps t ks p w n)) (sym (R .count))
+      (match-if (ltb n (t .nodes)) (match-evalF ps t u (R .nodes) ks p r A (suc n) w n) (match-still still-wrong))
 
   match-row : {p r : State} → Linked ps t ks p r → (n : ℕ) (k : Row) → PlainRow t k (rowAt t n .a) → (b c : ℕ)
       → Matches (Moves (Linked ps t (heldAfter k (markedPointer t (rowAt t n .a)) ks))) (rowRule [] t p n k (rowAt t n .a) b c)
@@ -338,7 +337,7 @@ module _ (ps : List ℕ) (t u : Table) (R : ReducesRows t u) (ks : List Bool) (s
       loop-row true = refl
       loop-row false = refl
   match-row {p} {r} A n loopEnd h b c =
-      subst (λ ls. Matches (Moves (Linked ps t ks)) (again [] t p (p .loops)) (again ps u r ls) (againChoices ps t ks p (p .loops))) (sym (A .loops)) (match-again ps t u R ks A (p .loops))
+      subst (λ ls. Matches (Moves (Linked ps t ks)) (repeatLoop [] t p (p .loops)) (repeatLoop ps u r ls) (repeatChoices ps t ks p (p .loops))) (sym (A .loops)) (match-repeatLoop ps t u R ks A (p .loops))
   match-row A n reducedStore h b c = absurd h
   match-row A n reducedArray h b c = absurd h
   match-row A n classLoop h b c = absurd h

@@ -9,14 +9,14 @@ use mathlib.Core.List.{List, [], _∷_}
 use lib.ListN.{length, getD, List·getD-eq-default}
 use lib.Dec.{eqb}
 use borrow.Author.Tests.{le-leb, lt-leb, eq-eqb, ne-eqb, eqb-true}
-use Rattle.lists.specs.Choice.{if_then_else_}
+use Rattle.lists.specs.If.{if_then_else_}
 use Rattle.lists.specs.Tab.{all}
 use Rattle.lists.proofs.TabLaws.{all-at, at-tab, length-tab, same-sum}
 use Rattle.model.specs.Table.{Node, Row, Table, Ty, count, isDeclaration, isNode, isRow, lineAt, marked, nodeAt, nodeKind, nodeKinds, rowAt, rowKind, rowKinds, tableOf, typeOf}
 use Rattle.model.specs.Table.Ty.{bool, uint, pointer}
 use Rattle.model.specs.Table.Node.{variable, uintConstant, boolConstant, cell, plus, minus, less, atMost, equal, conditional, valid, classVariable, reducedCell, reducedValid, noNode}
 use Rattle.model.specs.Table.Row.{skip, assign, store, assert, assume, array, loop, loopEnd, reducedStore, reducedArray, classLoop, noRow}
-use Rattle.model.specs.State.Machine.{plain, reduced}
+use Rattle.model.specs.State.MachineKind.{plain, reduced}
 use Rattle.model.specs.Reduce.{reduce, reducedKind, reducedWord}
 use Rattle.model.specs.Accepted.{known, tyNumber}
 use Rattle.model.proofs.MatchEval.{PlainNode, reducedNode}

@@ -9,7 +9,7 @@ use mathlib.Core.List.{List, [], _∷_}
 use lib.ListN.{length, getD, List·getD-eq-default}
 use lib.Dec.{ltb, eqb}
 use borrow.Author.Tests.{ltb-true, lt-ltb, eqb-true}
-use Rattle.lists.specs.Choice.{if_then_else_}
+use Rattle.lists.specs.If.{if_then_else_}
 use Rattle.lists.specs.Tab.{all}
 use Rattle.lists.proofs.TabLaws.{all-at}
 use Rattle.lists.proofs.FallingLaws.{value-is}
@@ -18,9 +18,9 @@ use Rattle.model.specs.Table.Ty.{bool, uint, pointer}
 use Rattle.model.specs.Table.Node.{variable, uintConstant, boolConstant, cell, plus, minus, less, atMost, equal, conditional, valid, classVariable, reducedCell, reducedValid, noNode}
 use Rattle.model.specs.Table.Row.{skip, assign, store, assert, assume, array, loop, loopEnd, reducedStore, reducedArray, classLoop, noRow}
 use Rattle.model.specs.Table.Nest.{opens, closes, neither}
-use Rattle.model.specs.State.{Machine, classed}
-use Rattle.model.specs.State.Machine.{plain, reduced}
-use Rattle.model.specs.Accepted.{Accepted, allThere, endsOpen, isReduced, known, markedNode, markedRow, nodeMarked, nodeThere, nodeType, nodeTyped, noneOpen, rowMarked, rowOpened, rowThere, rowTyped, sameTy, tyNumber, typeBy, typedNode, typedRow}
+use Rattle.model.specs.State.{MachineKind, classed}
+use Rattle.model.specs.State.MachineKind.{plain, reduced}
+use Rattle.model.specs.Accepted.{Accepted, allThere, endsOpen, isReduced, known, nodeSuits, nodeSuitsMark, nodeThere, nodeType, nodeTyped, noneOpen, rowOpened, rowSuits, rowSuitsMark, rowThere, rowTyped, sameTy, tyNumber, typeBy, typedNode, typedRow}
 use Rattle.model.proofs.Nested.{Nested}
 use Rattle.model.proofs.MatchEval.{PlainNode}
 use Rattle.model.proofs.MatchStep.{PlainRow}
@@ -33,7 +33,7 @@ Moving uint = Unit {0}
 Moving pointer = Unit {0}
 
 -- what a kind asks of its operands, and gives, by the type of each node
-abbrev pub Fits : Machine → Table → (ℕ → Ty) → Node → ℕ → ℕ → ℕ → ℕ → Type 0
+abbrev pub Fits : MachineKind → Table → (ℕ → Ty) → Node → ℕ → ℕ → ℕ → ℕ → Type 0
 Fits m t ty variable a b c n = (a < t .decls) × (classed m t a ≡ false) × (typeAt t a ≡ ty n)
 Fits m t ty uintConstant a b c n = uint ≡ ty n
 Fits m t ty boolConstant a b c n = bool ≡ ty n
@@ -45,12 +45,12 @@ Fits m t ty atMost a b c n = (a < n) × (b < n) × (ty a ≡ uint) × (ty b ≡ 
 Fits m t ty equal a b c n = (a < n) × (b < n) × (ty a ≡ uint) × (ty b ≡ uint) × (bool ≡ ty n)
 Fits m t ty conditional a b c n = (a < n) × (b < n) × (c < n) × (ty a ≡ bool) × (ty b ≡ ty n) × (ty c ≡ ty n)
 Fits m t ty valid a b c n = (a < n) × (ty a ≡ pointer) × (bool ≡ ty n)
-Fits m t ty classVariable a b c n = (a < t .decls) × (classed m t a ≡ true) × (uint ≡ ty n)
-Fits m t ty reducedCell a b c n = (a < n) × (ty a ≡ pointer) × (uint ≡ ty n)
+Fits m t ty classVariable a b c n = (a < t .decls) × (classed m t a ≡ true) × (uint ≡ ty n) × (m ≡ reduced)
+Fits m t ty reducedCell a b c n = (a < n) × (ty a ≡ pointer) × (uint ≡ ty n) × (m ≡ reduced)
 Fits m t ty reducedValid a b c n = (a < n) × (ty a ≡ pointer) × (bool ≡ ty n)
 Fits m t ty noNode a b c n = ⊥
 
-abbrev pub RowFits : Machine → Table → (ℕ → Ty) → Row → ℕ → ℕ → ℕ → Type 0
+abbrev pub RowFits : MachineKind → Table → (ℕ → Ty) → Row → ℕ → ℕ → ℕ → Type 0
 RowFits m t ty skip a b c = Unit {0}
 RowFits m t ty assign a b c = (a < t .decls) × (b < t .nodes) × (ty b ≡ typeAt t a) × (classed m t a ≡ false)
 RowFits m t ty store a b c = (a < t .nodes) × (b < t .nodes) × (ty a ≡ pointer) × (ty b ≡ uint) × (m ≡ plain)
@@ -59,9 +59,9 @@ RowFits m t ty assume a b c = (a < t .nodes) × (ty a ≡ bool)
 RowFits m t ty array a b c = (a < t .decls) × (b < t .nodes) × (ty b ≡ uint) × (typeAt t a ≡ pointer) × (classed m t a ≡ false)
 RowFits m t ty loop a b c = (b < t .nodes) × (c < t .nodes) × (ty b ≡ uint) × (ty c ≡ uint) × (a < t .decls) × (typeAt t a ≡ uint) × (classed m t a ≡ false)
 RowFits m t ty loopEnd a b c = Unit {0}
-RowFits m t ty reducedStore a b c = (a < t .nodes) × (b < t .nodes) × (ty a ≡ pointer) × (ty b ≡ uint)
+RowFits m t ty reducedStore a b c = (a < t .nodes) × (b < t .nodes) × (ty a ≡ pointer) × (ty b ≡ uint) × (m ≡ reduced)
 RowFits m t ty reducedArray a b c = (a < t .decls) × (b < t .nodes) × (ty b ≡ uint) × (typeAt t a ≡ pointer) × (classed m t a ≡ false) × (m ≡ reduced)
-RowFits m t ty classLoop a b c = (b < t .nodes) × (c < t .nodes) × (ty b ≡ uint) × (ty c ≡ uint) × (a < t .decls) × (typeAt t a ≡ uint) × (classed m t a ≡ true)
+RowFits m t ty classLoop a b c = (b < t .nodes) × (c < t .nodes) × (ty b ≡ uint) × (ty c ≡ uint) × (a < t .decls) × (typeAt t a ≡ uint) × (classed m t a ≡ true) × (m ≡ reduced)
 RowFits m t ty noRow a b c = ⊥
 
 -- ---- from Bools
@@ -93,12 +93,12 @@ pointer-unmarked t i e = go (markedUint t i) refl
     go true h = absurd (omega (arith, ap tyNumber (sym e ∙ marked-uint t i h)))
     go false h = h
 
-classed-none : (m : Machine) (t : Table) (i : ℕ) → markedUint t i ≡ false → classed m t i ≡ false
+classed-none : (m : MachineKind) (t : Table) (i : ℕ) → markedUint t i ≡ false → classed m t i ≡ false
 classed-none plain t i e = refl
 classed-none reduced t i e = e
 
 -- a marked uint in a reduced table: where the test excludes it, the variable holds its value
-unclassed : (m : Machine) (t : Table) (i : ℕ) → not (isReduced m && markedUint t i) ≡ true → classed m t i ≡ false
+unclassed : (m : MachineKind) (t : Table) (i : ℕ) → not (isReduced m && markedUint t i) ≡ true → classed m t i ≡ false
 unclassed plain t i e = refl
 unclassed reduced t i e = not-true (markedUint t i) e
 
@@ -138,12 +138,12 @@ hasRow m noRow = true
 abbrev implies : Bool → Bool → Bool
 implies b c = if b then c else true
 
-has-nodes : (m : Machine) → all 43 (λ k. implies (known m k) (hasNode (isReduced m) (nodeKind k))) ≡ true
+has-nodes : (m : MachineKind) → all 43 (λ k. implies (known m k) (hasNode (isReduced m) (nodeKind k))) ≡ true
 unfolding all known nodeKind
 has-nodes plain = refl
 has-nodes reduced = refl
 
-has-rows : (m : Machine) → all 43 (λ k. implies (known m k) (hasRow (isReduced m) (rowKind k))) ≡ true
+has-rows : (m : MachineKind) → all 43 (λ k. implies (known m k) (hasRow (isReduced m) (rowKind k))) ≡ true
 unfolding all known rowKind
 has-rows plain = refl
 has-rows reduced = refl
@@ -151,33 +151,33 @@ has-rows reduced = refl
 implied : (b c : Bool) → implies b c ≡ true → b ≡ true → c ≡ true
 implied b c e h = rw h at e
 
-has-node : (m : Machine) (k : ℕ) → known m k ≡ true → hasNode (isReduced m) (nodeKind k) ≡ true
+has-node : (m : MachineKind) (k : ℕ) → known m k ≡ true → hasNode (isReduced m) (nodeKind k) ≡ true
 has-node m k h = elim (decLe 43 k) [
   | yes l ↦ rw (no-node k l) refl
   | no l ↦ implied (known m k) (hasNode (isReduced m) (nodeKind k)) (all-at 43 (λ k. implies (known m k) (hasNode (isReduced m) (nodeKind k))) (has-nodes m) k (omega arith)) h
 ]
 
-has-row : (m : Machine) (k : ℕ) → known m k ≡ true → hasRow (isReduced m) (rowKind k) ≡ true
+has-row : (m : MachineKind) (k : ℕ) → known m k ≡ true → hasRow (isReduced m) (rowKind k) ≡ true
 has-row m k h = elim (decLe 43 k) [
   | yes l ↦ rw (no-row k l) refl
   | no l ↦ implied (known m k) (hasRow (isReduced m) (rowKind k)) (all-at 43 (λ k. implies (known m k) (hasRow (isReduced m) (rowKind k))) (has-rows m) k (omega arith)) h
 ]
 
-is-plain : (m : Machine) → not (isReduced m) ≡ true → m ≡ plain
+is-plain : (m : MachineKind) → not (isReduced m) ≡ true → m ≡ plain
 is-plain plain e = refl
 is-plain reduced e = absurd (false≢true e)
 
-is-reduced : (m : Machine) → isReduced m ≡ true → m ≡ reduced
+is-reduced : (m : MachineKind) → isReduced m ≡ true → m ≡ reduced
 is-reduced plain e = absurd (false≢true e)
 is-reduced reduced e = refl
 
-classed-is : (m : Machine) (t : Table) (i : ℕ) → isReduced m ≡ true → markedUint t i ≡ true → classed m t i ≡ true
+classed-is : (m : MachineKind) (t : Table) (i : ℕ) → isReduced m ≡ true → markedUint t i ≡ true → classed m t i ≡ true
 classed-is plain t i e h = absurd (false≢true e)
 classed-is reduced t i e h = h
 
 -- ---- from tests to facts
 
-module _ (m : Machine) (t : Table) (ty : ℕ → Ty) where
+module _ (m : MachineKind) (t : Table) (ty : ℕ → Ty) where
   compared : (a b n : ℕ) → (ltb a n && (ltb b n && true)) ≡ true → (sameTy (ty a) uint && sameTy (ty b) uint) ≡ true → bool ≡ ty n
       → (a < n) × (b < n) × (ty a ≡ uint) × (ty b ≡ uint) × (bool ≡ ty n)
   compared a b n y z q =
@@ -187,7 +187,7 @@ module _ (m : Machine) (t : Table) (ty : ℕ → Ty) where
   -- g: the types of the nodes below n
   fits : (k : Node) (a b c n : ℕ) (g : ℕ → Ty) → ((j : ℕ) → j < n → g j ≡ ty j) → typeBy t k a b g ≡ ty n
       → hasNode (isReduced m) k ≡ true → allThere (nodeRoles k) (t .decls) n (record { kind = 0; a = a; b = b; c = c }) ≡ true → typedNode ty k a b c ≡ true
-      → markedNode (isReduced m) k (markedUint t a) ≡ true → Fits m t ty k a b c n
+      → nodeSuits (isReduced m) k (markedUint t a) ≡ true → Fits m t ty k a b c n
   unfolding nodeRoles
   fits variable a b c n g e q x y z u = (ltb-true a (t .decls) (three (ltb a (t .decls)) true true y .0), unclassed m t a u, q)
   fits uintConstant a b c n g e q x y z u = q
@@ -212,8 +212,8 @@ module _ (m : Machine) (t : Table) (ty : ℕ → Ty) where
       let p : ty b ≡ ty n = sym (e b l) ∙ q in
       (ltb-true a n (h .0), l, ltb-true c n (h .2), same-ty _ _ (and-left (sameTy (ty a) bool) (sameTy (ty b) (ty c)) z), p, sym (same-ty _ _ (and-right (sameTy (ty a) bool) (sameTy (ty b) (ty c)) z)) ∙ p)
   fits valid a b c n g e q x y z u = (ltb-true a n (three (ltb a n) true true y .0), same-ty _ _ z, q)
-  fits classVariable a b c n g e q x y z u = (ltb-true a (t .decls) (three (ltb a (t .decls)) true true y .0), classed-is m t a x u, sym (marked-uint t a u) ∙ q)
-  fits reducedCell a b c n g e q x y z u = (ltb-true a n (three (ltb a n) true true y .0), same-ty _ _ z, q)
+  fits classVariable a b c n g e q x y z u = (ltb-true a (t .decls) (three (ltb a (t .decls)) true true y .0), classed-is m t a x u, sym (marked-uint t a u) ∙ q, is-reduced m x)
+  fits reducedCell a b c n g e q x y z u = (ltb-true a n (three (ltb a n) true true y .0), same-ty _ _ z, q, is-reduced m x)
   fits reducedValid a b c n g e q x y z u = (ltb-true a n (three (ltb a n) true true y .0), same-ty _ _ z, q)
   fits noNode a b c n g e q x y z u = false≢true z
 
@@ -238,7 +238,7 @@ module _ (m : Machine) (t : Table) (ty : ℕ → Ty) where
       (ltb-true b (t .nodes) (h .1), ltb-true c (t .nodes) (h .2), same-ty _ _ (p .1), same-ty _ _ (p .2), ltb-true a (t .decls) (h .0), same-ty _ _ (p .0), u)
 
   row-fits : (k : Row) (a b c : ℕ) → hasRow (isReduced m) k ≡ true → allThere (rowRoles k) (t .decls) (t .nodes) (record { kind = 0; a = a; b = b; c = c }) ≡ true
-      → typedRow (typeAt t) ty k a b c ≡ true → markedRow (isReduced m) k (markedUint t a) (markedPointer t a) ≡ true → RowFits m t ty k a b c
+      → typedRow (typeAt t) ty k a b c ≡ true → rowSuits (isReduced m) k (markedUint t a) (markedPointer t a) ≡ true → RowFits m t ty k a b c
   unfolding rowRoles
   row-fits skip a b c x y z u = tt
   row-fits assign a b c x y z u = 
@@ -250,9 +250,9 @@ module _ (m : Machine) (t : Table) (ty : ℕ → Ty) where
   row-fits array a b c x y z u = laid-out a b y z
   row-fits loop a b c x y z u = looped a b c false y z (unclassed m t a u)
   row-fits loopEnd a b c x y z u = tt
-  row-fits reducedStore a b c x y z u = stored a b y z
+  row-fits reducedStore a b c x y z u = let s = stored a b y z in (s .0, s .1, s .2, s .3, is-reduced m x)
   row-fits reducedArray a b c x y z u = let s = laid-out a b y z in (s .0, s .1, s .2, s .3, s .4, is-reduced m x)
-  row-fits classLoop a b c x y z u = looped a b c true y z (classed-is m t a x u)
+  row-fits classLoop a b c x y z u = let s = looped a b c true y z (classed-is m t a x u) in (s .0, s .1, s .2, s .3, s .4, s .5, s .6, is-reduced m x)
   row-fits noRow a b c x y z u = false≢true z
 
 -- ---- of an accepted table
@@ -267,7 +267,7 @@ some-is closes [] h e = absurd (false≢true h)
 some-is closes (o ∷ os) h e = (o, os, refl)
 some-is neither os h e = absurd (let z : _≡_ {A = ℕ} 0 1 = cc in omega arith)
 
-module _ (m : Machine) (t : Table) (A : Accepted m t) where
+module _ (m : MachineKind) (t : Table) (A : Accepted m t) where
   -- a line past the end is no line
   no-line : (i : ℕ) → lines t ≤ i → lineAt (t .words) i .kind ≡ 0
   no-line i h = List·getD-eq-default (t .words) 0 {n = 4 * i} (omega (arith, A .whole))
@@ -288,17 +288,17 @@ module _ (m : Machine) (t : Table) (A : Accepted m t) where
   type-is n = value-is (λ m ty. typeBy t (nodeKind (nodeAt t m .kind)) (nodeAt t m .a) (nodeAt t m .b) ty) bool n
 
   pub node-fits : (n : ℕ) → n < t .nodes → Fits m t (nodeType t) (nodeKind (nodeAt t n .kind)) (nodeAt t n .a) (nodeAt t n .b) (nodeAt t n .c) n
-  unfolding nodeThere nodeTyped nodeMarked
+  unfolding nodeThere nodeTyped nodeSuitsMark
   node-fits n h =
       fits m t (nodeType t) (nodeKind (nodeAt t n .kind)) (nodeAt t n .a) (nodeAt t n .b) (nodeAt t n .c) n (λ j. if ltb j n then nodeType t j else bool)
       (λ j l. rw (lt-ltb j n l)) (sym (type-is n)) (line-node (t .decls + n))
-      (all-at (t .nodes) (nodeThere t) (A .nodesThere) n h) (all-at (t .nodes) (nodeTyped t) (A .nodesTyped) n h) (all-at (t .nodes) (nodeMarked m t) (A .nodesMarked) n h)
+      (all-at (t .nodes) (nodeThere t) (A .nodesThere) n h) (all-at (t .nodes) (nodeTyped t) (A .nodesTyped) n h) (all-at (t .nodes) (nodeSuitsMark m t) (A .nodesSuit) n h)
 
   pub rows-fit : (r : ℕ) → r < t .rows → RowFits m t (nodeType t) (rowKind (rowAt t r .kind)) (rowAt t r .a) (rowAt t r .b) (rowAt t r .c)
-  unfolding rowThere rowTyped rowMarked
+  unfolding rowThere rowTyped rowSuitsMark
   rows-fit r h =
       row-fits m t (nodeType t) (rowKind (rowAt t r .kind)) (rowAt t r .a) (rowAt t r .b) (rowAt t r .c) (line-row (t .decls + t .nodes + r))
-      (all-at (t .rows) (rowThere t) (A .rowsThere) r h) (all-at (t .rows) (rowTyped t) (A .rowsTyped) r h) (all-at (t .rows) (rowMarked m t) (A .rowsMarked) r h)
+      (all-at (t .rows) (rowThere t) (A .rowsThere) r h) (all-at (t .rows) (rowTyped t) (A .rowsTyped) r h) (all-at (t .rows) (rowSuitsMark m t) (A .rowsSuit) r h)
 
   pub is-nested : Nested t
   unfolding rowOpened
@@ -327,7 +327,7 @@ plain-node reducedValid h = false≢true h
 plain-node noNode h = tt
 
 plain-row : (t : Table) (ty : ℕ → Ty) (k : Row) (a b c : ℕ) → hasRow false k ≡ true → typedRow (typeAt t) ty k a b c ≡ true
-    → markedRow false k (markedUint t a) (markedPointer t a) ≡ true → PlainRow t k a
+    → rowSuits false k (markedUint t a) (markedPointer t a) ≡ true → PlainRow t k a
 plain-row t ty skip a b c h z u = tt
 plain-row t ty assign a b c h z u = not-true (markedUint t a) u
 plain-row t ty store a b c h z u = tt
@@ -346,9 +346,9 @@ module _ (t : Table) (A : Accepted plain t) where
   plain-nodes n = plain-node (nodeKind (nodeAt t n .kind)) (line-node plain t A (t .decls + n))
 
   pub plain-rows : (r : ℕ) → PlainRow t (rowKind (rowAt t r .kind)) (rowAt t r .a)
-  unfolding rowTyped rowMarked rowKind
+  unfolding rowTyped rowSuitsMark rowKind
   plain-rows r = elim (decLe (t .rows) r) [
     | yes h ↦ rw (no-line plain t A (t .decls + t .nodes + r) (omega arith)) tt
     | no h ↦ plain-row t (nodeType t) (rowKind (rowAt t r .kind)) (rowAt t r .a) (rowAt t r .b) (rowAt t r .c) (line-row plain t A (t .decls + t .nodes + r))
-        (all-at (t .rows) (rowTyped t) (A .rowsTyped) r (omega arith)) (all-at (t .rows) (rowMarked plain t) (A .rowsMarked) r (omega arith))
+        (all-at (t .rows) (rowTyped t) (A .rowsTyped) r (omega arith)) (all-at (t .rows) (rowSuitsMark plain t) (A .rowsSuit) r (omega arith))
   ]

@@ -16,20 +16,20 @@ use Rattle.model.specs.Step.{End, Report, run, step}
 use Rattle.model.specs.Step.End.{outOfSteps, listFull}
 use Rattle.model.specs.Step.Move.{to}
 use Rattle.model.specs.Step.Report.{ended, noEnd}
-use Rattle.model.specs.Writer.{behind, heldNext, stepChoices, writer, written}
+use Rattle.model.specs.Writer.{heldNext, stepChoices, withNumbers, writer, written}
 use Rattle.model.proofs.Match.{Both, answered, left}
 use Rattle.model.proofs.Match.Both.{values, failures, nothings}
 use Rattle.model.proofs.Linked.{Linked}
 use Rattle.model.proofs.MatchStep.{Moves, ReducesRows, match-step}
 use Rattle.model.proofs.MatchStep.Moves.{both-to, both-stop, want}
 
-behind-behind : (xs ys : List ℕ) (r : Report) → behind xs (behind ys r) ≡ behind (xs ++ ys) r
-behind-behind xs ys (ended e n s l) = ap (ended e n s) (sym (append-assoc xs ys l))
-behind-behind xs ys noEnd = refl
+numbers-twice : (xs ys : List ℕ) (r : Report) → withNumbers xs (withNumbers ys r) ≡ withNumbers (xs ++ ys) r
+numbers-twice xs ys (ended e n s l) = ap (ended e n s) (sym (append-assoc xs ys l))
+numbers-twice xs ys noEnd = refl
 
 -- the last step's numbers
-behind-last : (e : End) (n : ℕ) (s : State) (xs : List ℕ) → ended e n s xs ≡ behind (xs ++ []) (ended e n s [])
-behind-last e n s xs = ap (ended e n s) (sym (append-nil (xs ++ []) ∙ append-nil xs))
+numbers-last : (e : End) (n : ℕ) (s : State) (xs : List ℕ) → ended e n s xs ≡ withNumbers (xs ++ []) (ended e n s [])
+numbers-last e n s xs = ap (ended e n s) (sym (append-nil (xs ++ []) ∙ append-nil xs))
 
 -- list full, after so many whole steps from the state p, at which n steps had been taken
 pub record FullFrom (ps : List ℕ) (t : Table) (k n : ℕ) (ks : List Bool) (p : State) (room : ℕ) (report : Report) : Type 0 where
@@ -43,11 +43,11 @@ pub record FullFrom (ps : List ℕ) (t : Table) (k n : ℕ) (ks : List Bool) (p 
 
 module _ (ps : List ℕ) (t u : Table) (R : ReducesRows t u) (small : (n : ℕ) → class ps n ≤ n + 1) where
   pub write-fits : (k n : ℕ) (ks : List Bool) {p r : State} → Linked ps t ks p r → (room : ℕ) → length (written ps t k ks p) ≤ room
-      → writer ps t k n ks p room ≡ behind (written ps t k ks p) (run [] t k n p [])
+      → writer ps t k n ks p room ≡ withNumbers (written ps t k ks p) (run [] t k n p [])
   unfolding run written writer
   write-fits zero n ks {p} A room h = go (ltb (p .row) (t .rows)) refl
     where
-      go : (b : Bool) → ltb (p .row) (t .rows) ≡ b → writer ps t zero n ks p room ≡ behind [] (run [] t zero n p [])
+      go : (b : Bool) → ltb (p .row) (t .rows) ≡ b → writer ps t zero n ks p room ≡ withNumbers [] (run [] t zero n p [])
       go true e = rw e
       go false e = rw e
   write-fits (suc k) n ks {p} {r} A room h =
@@ -61,22 +61,22 @@ module _ (ps : List ℕ) (t u : Table) (R : ReducesRows t u) (small : (n : ℕ) 
 
       go : (b : Bool) → ltb (p .row) (t .rows) ≡ b → (m : Both (Moves (Linked ps t ks′))) → step [] t p [] ≡ answered (left m) []
           → ((l : List Bool) (p′ r′ : State) → Linked ps t l p′ r′ → (room′ : ℕ) → length (written ps t k l p′) ≤ room′
-          → writer ps t k (suc n) l p′ room′ ≡ behind (written ps t k l p′) (run [] t k (suc n) p′ []))
+          → writer ps t k (suc n) l p′ room′ ≡ withNumbers (written ps t k l p′) (run [] t k (suc n) p′ []))
           → length (written ps t (suc k) ks p) ≤ room
-          → writer ps t (suc k) n ks p room ≡ behind (written ps t (suc k) ks p) (run [] t (suc k) n p [])
+          → writer ps t (suc k) n ks p room ≡ withNumbers (written ps t (suc k) ks p) (run [] t (suc k) n p [])
       go false e m f ih h = rw e
       go true e (values a b (both-to {p = p′} {r = r′} A′)) f ih h =
           let h′ : length xs + length (written ps t k ks′ p′) ≤ room = rw (e, f, length-append) at h in
-          rw (e, f, le-leb (length xs) room (omega arith), ih ks′ p′ r′ A′ (room - length xs) (omega arith)) (behind-behind xs (written ps t k ks′ p′) (run [] t k (suc n) p′ []))
+          rw (e, f, le-leb (length xs) room (omega arith), ih ks′ p′ r′ A′ (room - length xs) (omega arith)) (numbers-twice xs (written ps t k ks′ p′) (run [] t k (suc n) p′ []))
       go true e (values a b both-stop) f ih h =
           let h′ : length xs + 0 ≤ room = rw (e, f, length-append) at h in
-          rw (e, f, le-leb (length xs) room (omega arith)) (behind-last _ (suc n) p xs)
+          rw (e, f, le-leb (length xs) room (omega arith)) (numbers-last _ (suc n) p xs)
       go true e (values a b want) f ih h =
           let h′ : length xs + 0 ≤ room = rw (e, f, length-append) at h in
-          rw (e, f, le-leb (length xs) room (omega arith)) (behind-last _ (suc n) p xs)
+          rw (e, f, le-leb (length xs) room (omega arith)) (numbers-last _ (suc n) p xs)
       go true e failures f ih h =
           let h′ : length xs + 0 ≤ room = rw (e, f, length-append) at h in
-          rw (e, f, le-leb (length xs) room (omega arith)) (behind-last _ (suc n) p xs)
+          rw (e, f, le-leb (length xs) room (omega arith)) (numbers-last _ (suc n) p xs)
       go true e nothings f ih h =
           let h′ : length xs + 0 ≤ room = rw (e, f, length-append) at h in
           rw (e, f, le-leb (length xs) room (omega arith))

@@ -5,7 +5,7 @@ use mathlib.Core.Bool.{Bool, true, false, not, _&&_, _||_}
 use mathlib.Core.List.{List, [], _∷_, map}
 use lib.ListN.{length, getD}
 use lib.Dec.{ltb, leb, eqb}
-use Rattle.lists.specs.Choice.{if_then_else_}
+use Rattle.lists.specs.If.{if_then_else_}
 use Rattle.lists.specs.Tab.{all}
 use Rattle.lists.specs.Falling.{valueAt}
 use Rattle.model.specs.Table.{Table, Line, lineAt, lines, nodeAt, rowAt, Ty, typeAt, markedUint, markedPointer, Node, nodeKind, Row, rowKind, Role, Roles, nodeRoles, rowRoles, Nest, nestAt, openAt}
@@ -14,8 +14,8 @@ use Rattle.model.specs.Table.Node.{variable, uintConstant, boolConstant,
 use Rattle.model.specs.Table.Row.{skip, assign, store, assert, assume, array, loop, loopEnd, reducedStore, reducedArray, classLoop, noRow}
 use Rattle.model.specs.Table.Role.{unused, mark, number, flag, aVariable, aNode}
 use Rattle.model.specs.Table.Nest.{opens, closes, neither}
-use Rattle.model.specs.State.{Machine, Value, Array, Loop, State, classed}
-use Rattle.model.specs.State.Machine.{plain, reduced}
+use Rattle.model.specs.State.{MachineKind, Value, Array, Loop, State, classed}
+use Rattle.model.specs.State.MachineKind.{plain, reduced}
 use Rattle.model.specs.State.Value.{Truth, Uint, Class, Pointer}
 use Rattle.model.specs.Eval.{sizeOf, used}
 use Rattle.model.specs.Agree.{arrayAt}
@@ -24,7 +24,7 @@ abbrev pub between : ℕ → ℕ → ℕ → Bool
 between low high k = leb low k && leb k high
 
 -- 5: "The reduced machine takes kinds 27 to 29 and 40 to 42, refuses 19, 26 and 34 with 5" (R5)
-unfoldable pub known : Machine → ℕ → Bool
+unfoldable pub known : MachineKind → ℕ → Bool
 known plain k = between 1 3 k || between 16 26 k || between 32 39 k
 known reduced k = (between 1 3 k || between 16 29 k || between 32 42 k) && not (eqb k 19 || eqb k 26 || eqb k 34)
 
@@ -97,7 +97,7 @@ typedNode ty noNode a b c = false
 unfoldable pub nodeTyped : Table → ℕ → Bool
 nodeTyped t n = typedNode (nodeType t) (nodeKind (nodeAt t n .kind)) (nodeAt t n .a) (nodeAt t n .b) (nodeAt t n .c)
 
--- 9, of a row: "33 one type; 34 a pointer and a uint; 35 and 36 a bool; 37 a pointer variable and a uint; 38 uints"
+-- 9, of a row: "33 one type; 34 a pointer and a uint; 35 and 36 a bool; 37 a pointer variable and a uint; 38 uints" (R9)
 abbrev pub typedRow : (ℕ → Ty) → (ℕ → Ty) → Row → ℕ → ℕ → ℕ → Bool
 typedRow vars ty skip a b c = true
 typedRow vars ty assign a b c = sameTy (ty b) (vars a)
@@ -115,7 +115,7 @@ typedRow vars ty noRow a b c = false
 unfoldable pub rowTyped : Table → ℕ → Bool
 rowTyped t r = typedRow (typeAt t) (nodeType t) (rowKind (rowAt t r .kind)) (rowAt t r .a) (rowAt t r .b) (rowAt t r .c)
 
--- 11: an end has an open loop
+-- 11: not "end with no open loop" (R10)
 abbrev pub noneOpen : List ℕ → Bool
 noneOpen [] = true
 noneOpen (o ∷ os) = false
@@ -130,61 +130,67 @@ rowOpened t r = endsOpen (nestAt t r) (openAt t r)
 
 -- 12: "row 33 to a marked uint"; in a reduced table "also a kind that the reduction would not give that variable" (R11).
 -- By whether the table is reduced (m), and whether operand a is a marked uint (u), or a marked pointer (p)
-abbrev pub isReduced : Machine → Bool
+abbrev pub isReduced : MachineKind → Bool
 isReduced plain = false
 isReduced reduced = true
 
-abbrev pub markedNode : Bool → Node → Bool → Bool
-markedNode m variable u = not (m && u)
-markedNode m uintConstant u = true
-markedNode m boolConstant u = true
-markedNode m cell u = true
-markedNode m plus u = true
-markedNode m minus u = true
-markedNode m less u = true
-markedNode m atMost u = true
-markedNode m equal u = true
-markedNode m conditional u = true
-markedNode m valid u = true
-markedNode m classVariable u = u
-markedNode m reducedCell u = true
-markedNode m reducedValid u = true
-markedNode m noNode u = true
+abbrev pub nodeSuits : Bool → Node → Bool → Bool
+nodeSuits m variable u = not (m && u)
+nodeSuits m uintConstant u = true
+nodeSuits m boolConstant u = true
+nodeSuits m cell u = true
+nodeSuits m plus u = true
+nodeSuits m minus u = true
+nodeSuits m less u = true
+nodeSuits m atMost u = true
+nodeSuits m equal u = true
+nodeSuits m conditional u = true
+nodeSuits m valid u = true
+nodeSuits m classVariable u = u
+nodeSuits m reducedCell u = true
+nodeSuits m reducedValid u = true
+nodeSuits m noNode u = true
 
-unfoldable pub nodeMarked : Machine → Table → ℕ → Bool
-nodeMarked m t n = markedNode (isReduced m) (nodeKind (nodeAt t n .kind)) (markedUint t (nodeAt t n .a))
+unfoldable pub nodeSuitsMark : MachineKind → Table → ℕ → Bool
+nodeSuitsMark m t n = nodeSuits (isReduced m) (nodeKind (nodeAt t n .kind)) (markedUint t (nodeAt t n .a))
 
-abbrev pub markedRow : Bool → Row → Bool → Bool → Bool
-markedRow m skip u p = true
-markedRow m assign u p = not u
-markedRow m store u p = true
-markedRow m assert u p = true
-markedRow m assume u p = true
-markedRow m array u p = not (m && p)
-markedRow m loop u p = not (m && u)
-markedRow m loopEnd u p = true
-markedRow m reducedStore u p = true
-markedRow m reducedArray u p = p
-markedRow m classLoop u p = u
-markedRow m noRow u p = true
+abbrev pub rowSuits : Bool → Row → Bool → Bool → Bool
+rowSuits m skip u p = true
+rowSuits m assign u p = not u
+rowSuits m store u p = true
+rowSuits m assert u p = true
+rowSuits m assume u p = true
+rowSuits m array u p = not (m && p)
+rowSuits m loop u p = not (m && u)
+rowSuits m loopEnd u p = true
+rowSuits m reducedStore u p = true
+rowSuits m reducedArray u p = p
+rowSuits m classLoop u p = u
+rowSuits m noRow u p = true
 
-unfoldable pub rowMarked : Machine → Table → ℕ → Bool
-rowMarked m t r = markedRow (isReduced m) (rowKind (rowAt t r .kind)) (markedUint t (rowAt t r .a)) (markedPointer t (rowAt t r .a))
+unfoldable pub rowSuitsMark : MachineKind → Table → ℕ → Bool
+rowSuitsMark m t r = rowSuits (isReduced m) (rowKind (rowAt t r .kind)) (markedUint t (rowAt t r .a)) (markedPointer t (rowAt t r .a))
 
--- the facts of the checks that demand 3 needs of a plain or a reduced table, by number
-pub record Accepted (m : Machine) (t : Table) : Type 0 where
+-- the facts of the checks that demand 3 needs of a plain or a reduced table
+pub record Accepted (m : MachineKind) (t : Table) : Type 0 where
+  -- 4
   pub whole : length (t .words) ≡ 4 * lines t
+  -- 5, "unknown kind"; "sorts out of order" is in nodesTyped and rowsTyped, where a line of another sort has no type
   pub kinds : all (lines t) (λ i. known m (lineAt (t .words) i .kind)) ≡ true
+  -- 8
   pub nodesThere : all (t .nodes) (nodeThere t) ≡ true
   pub rowsThere : all (t .rows) (rowThere t) ≡ true
+  -- 9
   pub nodesTyped : all (t .nodes) (nodeTyped t) ≡ true
   pub rowsTyped : all (t .rows) (rowTyped t) ≡ true
+  -- 11, but for "loop inside eight"
   pub endsOpened : all (t .rows) (rowOpened t) ≡ true
   pub loopsClosed : noneOpen (openAt t (t .rows)) ≡ true
-  pub nodesMarked : all (t .nodes) (nodeMarked m t) ≡ true
-  pub rowsMarked : all (t .rows) (rowMarked m t) ≡ true
+  -- 12
+  pub nodesSuit : all (t .nodes) (nodeSuitsMark m t) ≡ true
+  pub rowsSuit : all (t .rows) (rowSuitsMark m t) ≡ true
 
--- 15: "a variable not of its type; ... a pointer to no such array"; there are so many arrays
+-- 15: not "a variable not of its type", "a pointer to no such array"; there are so many arrays
 abbrev pub HasType : ℕ → Ty → Value → Type 0
 HasType count bool v = (b : Bool) × (v ≡ Truth b)
 HasType count uint v = (x : ℕ) × (v ≡ Uint x)
@@ -204,9 +210,9 @@ pub record Laid (ps : List ℕ) (rs : List Array) (cells : List ℕ) : Type 0 wh
   pub sequence : InSequence ps 0 rs
   pub room : used ps rs ≤ length cells
 
--- the facts of check 15 that demand 3 needs: a record that the table can have, with any numbers in its cells
-pub record CanHave (ps : List ℕ) (m : Machine) (t : Table) (s : State) : Type 0 where
-  -- not "row above the row count; open loops not those around the row"
+-- the facts of check 15 that demand 3 needs: a record that the table can have, "and any numbers in its cells" (R25)
+pub record CanHave (ps : List ℕ) (m : MachineKind) (t : Table) (s : State) : Type 0 where
+  -- not "row above the row count; open loops not those around the row" (R24; the record has the outermost first, the state the innermost)
   pub row : s .row ≤ t .rows
   pub loops : map (λ (l : Loop). l .row) (s .loops) ≡ openAt t (s .row)
   pub variables : length (s .vars) ≡ t .decls

@@ -6,32 +6,41 @@ use mathlib.Core.List.{List, [], _∷_}
 use lib.ListN.{length}
 use Rattle.model.specs.Class.{pair, acceptedPair}
 use Rattle.model.specs.Table.{Table, tableOf}
-use Rattle.model.specs.State.{Machine, Array, State, fresh}
-use Rattle.model.specs.State.Machine.{plain, reduced}
+use Rattle.model.specs.State.{MachineKind, Array, State, fresh}
+use Rattle.model.specs.State.MachineKind.{plain, reduced}
 use Rattle.model.specs.Step.{End, Report, run}
 use Rattle.model.specs.Step.End.{done, assertFalse, assumeFalse, failed, wantOfCells, outOfSteps, choiceNotAllowed, noChoiceLeft, listFull}
 use Rattle.model.specs.Step.Report.{ended, noEnd}
 use Rattle.model.specs.Reduce.{reduce}
 use Rattle.model.specs.Agree.{arrayAt, plainCell, reducedCellOf, Agree}
-use Rattle.model.specs.Writer.{behind, written, writer}
+use Rattle.model.specs.Writer.{withNumbers, written, writer}
 use Rattle.model.specs.Accepted.{Accepted, CanHave}
 
--- an end of a machine's run: "list full (choice writer only)"
-abbrev pub MachineEnd : End → Type 0
-MachineEnd done = Unit {0}
-MachineEnd assertFalse = Unit {0}
-MachineEnd assumeFalse = Unit {0}
-MachineEnd failed = Unit {0}
-MachineEnd wantOfCells = Unit {0}
-MachineEnd outOfSteps = Unit {0}
-MachineEnd choiceNotAllowed = Unit {0}
-MachineEnd noChoiceLeft = Unit {0}
-MachineEnd listFull = ⊥
+-- the plain machine takes no choice
+abbrev pub TakesChoices : MachineKind → Type 0
+TakesChoices plain = ⊥
+TakesChoices reduced = Unit {0}
 
--- the run comes to an end of its machine: no step of it was stuck
-abbrev pub Ends : Report → Type 0
-Ends (ended e n s cs) = MachineEnd e
-Ends noEnd = ⊥
+abbrev pub Leaves : MachineKind → List ℕ → List ℕ → Type 0
+Leaves plain choices left = left ≡ choices
+Leaves reduced choices left = Unit {0}
+
+-- an end of a machine's run: "list full (choice writer only)"
+abbrev pub MachineEnd : MachineKind → End → Type 0
+MachineEnd m done = Unit {0}
+MachineEnd m assertFalse = Unit {0}
+MachineEnd m assumeFalse = Unit {0}
+MachineEnd m failed = Unit {0}
+MachineEnd m wantOfCells = Unit {0}
+MachineEnd m outOfSteps = Unit {0}
+MachineEnd m choiceNotAllowed = TakesChoices m
+MachineEnd m noChoiceLeft = TakesChoices m
+MachineEnd m listFull = ⊥
+
+-- a run under choices comes to an end of its machine, in a state that its table can have: no step of it was stuck
+abbrev pub Ends : List ℕ → MachineKind → Table → List ℕ → Report → Type 0
+Ends ps m t choices (ended e n s left) = MachineEnd m e × CanHave ps m t s × Leaves m choices left
+Ends ps m t choices noEnd = ⊥
 
 abbrev pub isWant : End → Bool
 isWant done = false
@@ -53,7 +62,7 @@ abbrev pub choicesUsed : List ℕ → Report → ℕ
 choicesUsed l (ended e n s cs) = length l - length cs
 choicesUsed l noEnd = 0
 
--- "A fresh run has a fresh record and its own zeroed cells". The plain machine tracks no place and takes no choice
+-- "A fresh run has a fresh record and its own zeroed cells" (R21). The plain machine tracks no place and takes no choice
 abbrev pub plainRun : List ℕ → ℕ → Report
 plainRun P limit = run [] (tableOf P) limit 0 (fresh [] plain (tableOf P)) []
 
@@ -62,15 +71,16 @@ module _ (c1 c2 : ℕ) where
   abbrev pub reducedRun : List ℕ → ℕ → List ℕ → Report
   reducedRun Q limit choices = run (pair c1 c2) (tableOf Q) limit 0 (fresh (pair c1 c2) reduced (tableOf Q)) choices
 
-  -- "The list is the choice writer's"
+  -- "The list is the choice writer's"; "The choice writer runs the plain table fresh"
   abbrev pub choiceList : List ℕ → ℕ → List ℕ
   choiceList P limit = written (pair c1 c2) (tableOf P) limit [] (fresh [] plain (tableOf P))
 
   abbrev pub writerRun : List ℕ → ℕ → ℕ → Report
   writerRun P limit room = writer (pair c1 c2) (tableOf P) limit 0 [] (fresh [] plain (tableOf P)) room
 
-  -- "End, row and steps are those that both runs report. The last states agree, and with that the tracked cells are equal."
-  -- "the reduced run reports as many choices used as it has numbers"
+  -- "End, row and steps are those that both runs report. The last states agree, and with that the tracked cells are equal." (The row is
+  -- in agree.) "the reduced run reports as many choices used as it has numbers, in a count of 64 bits": that the count fits 64 bits
+  -- rests on check 10, the depth, which is not among the facts asked here; the crate of the choice writer says it
   pub record Matched (P : List ℕ) (list : List ℕ) (plainReport reducedReport : Report) : Type 0 where
     pub end : End
     pub steps : ℕ
@@ -98,20 +108,24 @@ module _ (c1 c2 : ℕ) where
   -- cells has a choice list under which the fresh run of Q with that limit uses exactly that list and ends the same way, at the same
   -- row, after as many steps, with both tracked circuits' cells equal. The tool writes that list whenever the room holds it, and ends
   -- with "list full" exactly when the room is shorter. One claim about whole runs."
+  -- (Numbers, limits and choices are any whole numbers here; those of 32 bits are a case.)
   pub record Demand3 (P : List ℕ) : Type 0 where
-    pub plainEnds : (s : State) → CanHave [] plain (tableOf P) s → (limit : ℕ) (choices : List ℕ) → Ends (run [] (tableOf P) limit 0 s choices)
+    pub plainEnds : (s : State) → CanHave [] plain (tableOf P) s → (limit : ℕ) (choices : List ℕ)
+        → Ends [] plain (tableOf P) choices (run [] (tableOf P) limit 0 s choices)
     pub reducedEnds : (s : State) → CanHave (pair c1 c2) reduced (tableOf (reduce P)) s
-        → (limit : ℕ) (choices : List ℕ) → Ends (run (pair c1 c2) (tableOf (reduce P)) limit 0 s choices)
+        → (limit : ℕ) (choices : List ℕ) → Ends (pair c1 c2) reduced (tableOf (reduce P)) choices (run (pair c1 c2) (tableOf (reduce P)) limit 0 s choices)
     pub plainFresh : CanHave [] plain (tableOf P) (fresh [] plain (tableOf P))
     pub reducedFresh : CanHave (pair c1 c2) reduced (tableOf (reduce P)) (fresh (pair c1 c2) reduced (tableOf (reduce P)))
     pub matched : (limit : ℕ) → wantsCells (plainRun P limit) ≡ false
         → Matched P (choiceList P limit) (plainRun P limit) (reducedRun (reduce P) limit (choiceList P limit))
-    pub fits : (limit room : ℕ) → length (choiceList P limit) ≤ room → writerRun P limit room ≡ behind (choiceList P limit) (plainRun P limit)
+    pub fits : (limit room : ℕ) → length (choiceList P limit) ≤ room → writerRun P limit room ≡ withNumbers (choiceList P limit) (plainRun P limit)
     pub full : (limit room : ℕ) → room < length (choiceList P limit) → FullAfter P limit room (writerRun P limit room)
 
 -- the first half, of any table that the checks accept, for either machine
 abbrev pub NeverStuck : Type 0
-NeverStuck = (ps : List ℕ) (m : Machine) (t : Table) → Accepted m t → (s : State) → CanHave ps m t s → (limit : ℕ) (choices : List ℕ) → Ends (run ps t limit 0 s choices)
+NeverStuck =
+    (ps : List ℕ) (m : MachineKind) (t : Table) → Accepted m t → (s : State) → CanHave ps m t s
+    → (limit : ℕ) (choices : List ℕ) → Ends ps m t choices (run ps t limit 0 s choices)
 
 -- the reduction of an accepted table is an accepted reduced table
 abbrev pub ReductionAccepted : Type 0

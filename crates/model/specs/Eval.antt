@@ -4,7 +4,7 @@ use mathlib.Core.Bool.{Bool, true, false}
 use mathlib.Core.List.{List, [], _∷_}
 use lib.ListN.{length, getD}
 use lib.Dec.{ltb, leb, eqb}
-use Rattle.lists.specs.Choice.{if_then_else_}
+use Rattle.lists.specs.If.{if_then_else_}
 use Rattle.model.specs.Class.{class, tracked}
 use Rattle.model.specs.Table.{Table, Line, Ty, nodeAt, Node, nodeKind}
 use Rattle.model.specs.Table.Ty.{bool, uint, pointer}
@@ -97,13 +97,13 @@ abbrev pub subtract : ℕ → ℕ → Work ℕ
 subtract x y = if leb y x then give (x - y) else fail
 
 -- "20 and 21 take two uints, or a pointer and then a uint"; on a pointer they work on its place (R18); "left operand first"
-abbrev pub shift : (ℕ → ℕ → Work ℕ) → (w : Ty) → Work (Of w) → Work ℕ → Work (Of w)
-shift op bool left right = wrong
-shift op uint left right = do
+abbrev pub sumOrDifference : (ℕ → ℕ → Work ℕ) → (w : Ty) → Work (Of w) → Work ℕ → Work (Of w)
+sumOrDifference op bool left right = wrong
+sumOrDifference op uint left right = do
   x ← left
   y ← right
   op x y
-shift op pointer left right = do
+sumOrDifference op pointer left right = do
   p ← left
   y ← right
   z ← op (p .place) y
@@ -122,7 +122,7 @@ variableOf vs a = if ltb a (length vs) then give (getD vs a (Uint 0)) else wrong
 abbrev pub noArray : Array
 noArray = record { start = 0; len = 0; reduced = false }
 
--- a pointer's array: with none it fails, and one that the record lacks is no end
+-- a pointer's array: with none it fails (R18), and one that the record lacks is no end
 abbrev pub arrayOf : List Array → ℕ → Work Array
 arrayOf rs zero = fail
 arrayOf rs (suc i) = if ltb i (length rs) then give (getD rs i noArray) else wrong
@@ -143,7 +143,8 @@ cellOf ps cells r i =
     then (if ltb (r .start + i) (length cells) then give (getD cells (r .start + i) 0) else wrong)
     else wrong
 
--- does an array have a cell for place j, and which: "a tracked place reads the cell of its class"; a plain array has one for each place
+-- does an array have a cell for place j, and which: "a tracked place reads the cell of its class" (R16); a plain array has one for each
+-- place, so that "With a plain array or none, 28, 29 and 40 act as 19, 26 and 34."
 abbrev pub keeps : List ℕ → Array → ℕ → Bool
 keeps ps r j = if r .reduced then tracked ps j else true
 
@@ -164,7 +165,8 @@ reducedLoad ps rs cells p = do
       then (if keeps ps r (p .place) then cellOf ps cells r (indexOf ps r (p .place)) else choose (λ v. true))
       else fail
 
--- 26 and 29: "true when there is an array and the place is below its length"; "29 uses the true length"
+-- 26 and 29: "true when there is an array and the place is below its length; it fails only if its operand fails"; "29 uses the true
+-- length" (R18)
 abbrev pub isValid : List Array → ℕ → ℕ → Work Bool
 isValid rs zero p = give false
 isValid rs (suc i) p = do
@@ -182,15 +184,16 @@ abbrev pub below : ℕ → ((w : Ty) → ℕ → Work (Of w)) → (w : Ty) → �
 below n ev w m = if ltb m n then ev w m else wrong
 
 module _ (ps : List ℕ) (s : Store) where
-  -- each kind for a user that takes the type w, by its operands and how an operand node is worked out for a type.
+  -- "A pointer is worked out from numbers and a number from a pointer": each kind for a user that takes the type w, by its operands
+  -- and how an operand node is worked out for a type. (18 with another constant than 1 is false here; 7 refuses it.)
   -- "25 works out only the branch it takes." "002 writes the operand of 28, 29 and 40 twice; here it is worked out once."
   unfoldable pub rule : (w : Ty) → Node → ℕ → ℕ → ℕ → ((v : Ty) → ℕ → Work (Of v)) → Work (Of w)
   rule w variable a b c ev = variableOf (s .vars) a >>= ofType w
   rule w uintConstant a b c ev = uints w (give a)
   rule w boolConstant a b c ev = bools w (give (eqb a 1))
   rule w cell a b c ev = uints w (ev pointer a >>= load ps (s .arrays) (s .cells))
-  rule w plus a b c ev = shift add w (ev w a) (ev uint b)
-  rule w minus a b c ev = shift subtract w (ev w a) (ev uint b)
+  rule w plus a b c ev = sumOrDifference add w (ev w a) (ev uint b)
+  rule w minus a b c ev = sumOrDifference subtract w (ev w a) (ev uint b)
   rule w less a b c ev = bools w (compare ltb (ev uint a) (ev uint b))
   rule w atMost a b c ev = bools w (compare leb (ev uint a) (ev uint b))
   rule w equal a b c ev = bools w (compare eqb (ev uint a) (ev uint b))
@@ -203,7 +206,8 @@ module _ (ps : List ℕ) (s : Store) where
   rule w reducedValid a b c ev = bools w (ev pointer a >>= λ p. isValid (s .arrays) (p .array) (p .place))
   rule w noNode a b c ev = wrong
 
-  -- "anew at each use": with fuel f; any above the node's number gives the same (eval-is of proofs/EvalLaws has none)
+  -- "anew at each use" (R20). f bounds the nesting; any f above the node's number gives the same, and eval-is of proofs/EvalLaws says
+  -- `eval` without it
   unfoldable pub evalF : Table → ℕ → (w : Ty) → ℕ → Work (Of w)
   unfolding rule
   evalF t zero w n = wrong

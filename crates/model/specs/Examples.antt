@@ -8,10 +8,10 @@ use Rattle.model.specs.Class.{pair, acceptedPair}
 use Rattle.model.specs.State.{Array, State}
 use Rattle.model.specs.Eval.{sizeOf}
 use Rattle.model.specs.Step.{End, Report, made}
-use Rattle.model.specs.Step.End.{done, assertFalse, outOfSteps, choiceNotAllowed, noChoiceLeft}
+use Rattle.model.specs.Step.End.{done, assertFalse, outOfSteps, choiceNotAllowed, noChoiceLeft, listFull}
 use Rattle.model.specs.Step.Report.{ended, noEnd}
 use Rattle.model.specs.Reduce.{reduce}
-use Rattle.model.specs.Demand3.{plainRun, reducedRun, choiceList, choicesUsed}
+use Rattle.model.specs.Demand3.{plainRun, reducedRun, choiceList, choicesUsed, writerRun}
 
 -- "T is, line by line"
 unfoldable pub T : List ℕ
@@ -37,21 +37,29 @@ pub data Shown : Type 0 where
   refusedBy13 : Bool → Shown
 
 abbrev pub shown : List ℕ → Report → Shown
-shown choices (ended e n s left) = ran e (s .row) n (length choices - length left)
+shown choices (ended e n s left) = ran e (s .row) n (choicesUsed choices (ended e n s left))
 shown choices noEnd = stuckRun
+
+-- of the choice writer: end, row, steps and numbers written
+abbrev pub wrote : Report → Shown
+wrote (ended e n s l) = ran e (s .row) n (length l)
+wrote noEnd = stuckRun
 
 -- T reduced with the pair 1, 3, under a choice list
 abbrev pub runT : ℕ → List ℕ → Shown
 runT limit choices = shown choices (reducedRun 1 3 (reduce T) limit choices)
 
+-- how many cells a reduced array of a length takes
 abbrev pub takes : ℕ → ℕ → ℕ → Shown
-takes c1 c2 length = cells (sizeOf (pair c1 c2) (made 0 length true))
+takes c1 c2 len = cells (sizeOf (pair c1 c2) (made 0 len true))
 
 unfoldable pub results : List Shown
 results =
     table (reduce T)
     ∷ shown [] (plainRun T 100)
     ∷ runT 100 (choiceList 1 3 T 100)
+    ∷ wrote (writerRun 1 3 T 100 30)
+    ∷ wrote (writerRun 1 3 T 100 29)
     ∷ runT 100 (0 ∷ 4 ∷ 0 ∷ 0 ∷ 0 ∷ 9 ∷ [])
     ∷ runT 100 (1 ∷ [])
     ∷ runT 100 []
@@ -74,15 +82,23 @@ results =
 unfoldable pub expected : List Shown
 expected =
     table reducedT
+    -- the listing
     ∷ ran done 5 17 0
     ∷ ran done 5 17 30
+    -- the writer with room for the list, and with less: the last step takes 2 choices
+    ∷ ran done 5 17 30
+    ∷ ran listFull 4 16 28
+    -- "T, choices 0 4 0 0 0 9: assert false, row 3, 4 steps, 6 choices."
     ∷ ran assertFalse 3 4 6
+    -- "T, choices 1: choice not allowed, row 1, 1 step." "No choices: no choice left, row 1."
     ∷ ran choiceNotAllowed 1 1 0
     ∷ ran noChoiceLeft 1 1 0
+    -- "T, limit 0: out of steps, row 0." "Empty table, limit 0: done." In both machines
     ∷ ran outOfSteps 0 0 0
     ∷ ran outOfSteps 0 0 0
     ∷ ran done 0 0 0
     ∷ ran done 0 0 0
+    -- "Pair 1, 3: lengths 0, 1, 2, 3, 5 take 0, 1, 2, 3, 4 cells." "Pair 0, 2: lengths 0, 1 take 1, 2."
     ∷ cells 0
     ∷ cells 1
     ∷ cells 2
@@ -90,6 +106,7 @@ expected =
     ∷ cells 4
     ∷ cells 1
     ∷ cells 2
+    -- "Pair 1, 2 gets 13; (p) 0, 2 passes."
     ∷ refusedBy13 true
     ∷ refusedBy13 false
     ∷ []

@@ -4,14 +4,14 @@ use mathlib.Core.Bool.{Bool, true, false, _&&_}
 use mathlib.Core.List.{List, [], _∷_}
 use lib.ListN.{replicate}
 use lib.Dec.{eqb}
-use Rattle.lists.specs.Choice.{if_then_else_}
+use Rattle.lists.specs.If.{if_then_else_}
 use Rattle.lists.specs.Tab.{tab}
 use Rattle.model.specs.Class.{class}
 use Rattle.model.specs.Table.{Table, declAt, Ty, typeOf, typeAt, markedUint}
 use Rattle.model.specs.Table.Ty.{bool, uint, pointer}
 
-pub data Machine : Type 0 where
-  plain reduced : Machine
+pub data MachineKind : Type 0 where
+  plain reduced : MachineKind
 
 -- "Numbers are 32 bits."
 abbrev pub most : ℕ
@@ -21,11 +21,11 @@ most = 4294967295
 abbrev pub mostArrays : ℕ
 mostArrays = 16
 
-abbrev pub cellCount : Machine → ℕ
+abbrev pub cellCount : MachineKind → ℕ
 cellCount plain = 4096
 cellCount reduced = 4112
 
--- a variable's value; a pointer has its array, counted from 1, or 0 for none, and its place
+-- a variable's value ("Cells hold uints"); a pointer has its array, counted from 1, or 0 for none, and its place
 pub data Value : Type 0 where
   Truth : Bool → Value
   Uint : ℕ → Value
@@ -60,7 +60,7 @@ pub record State : Type 0 where
   pub cells : List ℕ
 
 -- "A marked iterator holds a class"; every marked uint does in the reduced machine (R17)
-abbrev pub classed : Machine → Table → ℕ → Bool
+abbrev pub classed : MachineKind → Table → ℕ → Bool
 classed plain t i = false
 classed reduced t i = markedUint t i
 
@@ -71,9 +71,9 @@ zeroOf uint = Uint 0
 zeroOf pointer = Pointer 0 0
 
 -- "A marked iterator holds a class, at first that of 0."
-abbrev pub startOf : List ℕ → Machine → Table → ℕ → Value
+abbrev pub startOf : List ℕ → MachineKind → Table → ℕ → Value
 startOf ps m t i = if classed m t i then Class (class ps 0) else zeroOf (typeAt t i)
 
--- "A fresh run first zeroes all lent cells."
-unfoldable pub fresh : List ℕ → Machine → Table → State
+-- "A fresh run first zeroes all lent cells." (R21)
+unfoldable pub fresh : List ℕ → MachineKind → Table → State
 fresh ps m t = record { row = 0; loops = []; vars = tab (t .decls) (startOf ps m t); arrays = []; cells = replicate (cellCount m) 0 }

@@ -4,7 +4,7 @@ use mathlib.Core.Bool.{Bool, true, false}
 use mathlib.Core.List.{List, [], _∷_, _++_}
 use lib.ListN.{length, getD, set, take, drop, replicate}
 use lib.Dec.{ltb, leb, eqb}
-use Rattle.lists.specs.Choice.{if_then_else_}
+use Rattle.lists.specs.If.{if_then_else_}
 use Rattle.model.specs.Class.{class}
 use Rattle.model.specs.Table.{Table, Line, Ty, typeAt, rowAt, Row, rowKind, matchingEnd}
 use Rattle.model.specs.Table.Ty.{bool, uint, pointer}
@@ -16,7 +16,7 @@ use Rattle.model.specs.State.Value.{Truth, Uint, Class, Pointer}
 use Rattle.model.specs.Eval.{storeOf, Of, eval, below, Ptr, add, variableOf, arrayOf, sizeOf, used, keeps, indexOf, value}
 
 -- "Ends: done; assert false; assume false; fail; want of cells (or a 17th array); out of steps; choice not allowed; no choice left;
--- list full (choice writer only)."
+-- list full (choice writer only)." "002 sends assert and assume to one failure; here they differ."
 pub data End : Type 0 where
   done assertFalse assumeFalse failed wantOfCells outOfSteps choiceNotAllowed noChoiceLeft listFull : End
 
@@ -40,14 +40,14 @@ withCell s i x = record { row = s .row; loops = s .loops; vars = s .vars; arrays
 abbrev pub withLoops : State → List Loop → State
 withLoops s ls = record { row = s .row; loops = ls; vars = s .vars; arrays = s .arrays; cells = s .cells }
 
--- n cells from a start on set to 0
+-- n cells from a start on set to 0: "new cells are 0"
 abbrev pub cleared : ℕ → ℕ → List ℕ → List ℕ
 cleared start n cs = take start cs ++ (replicate n 0 ++ drop (start + n) cs)
 
 abbrev pub made : ℕ → ℕ → Bool → Array
 made start n f = record { start = start; len = n; reduced = f }
 
--- a variable gets a value of the type that it has; any other is "an operand of the wrong kind"
+-- a variable gets a value of the type that it has; any other is an operand "of the wrong kind"
 abbrev pub setVar : State → ℕ → Value → Work State
 setVar s a v = do
   old ← variableOf (s .vars) a
@@ -57,7 +57,7 @@ setVar s a v = do
 abbrev pub pastEnd : Table → ℕ → Work ℕ
 pastEnd t r = if ltb (matchingEnd t r) (t .rows) then give (suc (matchingEnd t r)) else wrong
 
--- loop entry: "if start ≤ end it sets the iterator to start and enters, else it sets it likewise and goes past its end row"
+-- loop entry: "if start ≤ end it sets the iterator to start and enters, else it sets it likewise and goes past its end row" (R14)
 abbrev pub enter : Table → State → ℕ → Value → ℕ → ℕ → Work ℕ → Work Move
 enter t s r v from upto out = do
   s′ ← setVar s (rowAt t r .a) v
@@ -92,18 +92,21 @@ module _ (ps : List ℕ) where
         else fail
 
   -- 37 and 41, the length worked out: "ends for want of cells exactly when there are 16 arrays or the new cells don't fit after those
-  -- laid; else it zeroes the new array's cells and points at its place 0" (R19); f: reduced
+  -- laid; else it zeroes the new array's cells and points at its place 0" (R19); f says whether it is a reduced array
+  abbrev pub laidNext : State → ℕ → Bool → Array
+  laidNext s n f = made (used ps (s .arrays)) n f
+
   abbrev pub addArray : State → ℕ → Bool → Move
   addArray s n f =
       if leb mostArrays (length (s .arrays))
       then stop wantOfCells
-      else (if leb (used ps (s .arrays) + sizeOf ps (made (used ps (s .arrays)) n f)) (length (s .cells))
+      else (if leb (used ps (s .arrays) + sizeOf ps (laidNext s n f)) (length (s .cells))
       then to (record {
         row = suc (s .row);
         loops = s .loops;
         vars = s .vars;
-        arrays = s .arrays ++ made (used ps (s .arrays)) n f ∷ [];
-        cells = cleared (used ps (s .arrays)) (sizeOf ps (made (used ps (s .arrays)) n f)) (s .cells);
+        arrays = s .arrays ++ laidNext s n f ∷ [];
+        cells = cleared (used ps (s .arrays)) (sizeOf ps (laidNext s n f)) (s .cells);
       })
       else stop wantOfCells)
 
@@ -132,9 +135,9 @@ module _ (ps : List ℕ) where
   loopAt t s r noRow x y out = wrong
 
   -- "Row 39 repeats that test with start + 1 and the kept end; start + 1 may fail, before any choice"; "leaving drops it" (R14)
-  abbrev pub again : Table → State → List Loop → Work Move
-  again t s [] = wrong
-  again t s (l ∷ ls) = do
+  abbrev pub repeatLoop : Table → State → List Loop → Work Move
+  repeatLoop t s [] = wrong
+  repeatLoop t s (l ∷ ls) = do
     x ← add (l .start) 1
     loopAt t (withLoops s ls) (l .row) (rowKind (rowAt t (l .row) .kind)) x (l .end) (give (suc (s .row)))
 
@@ -142,7 +145,7 @@ module _ (ps : List ℕ) where
   abbrev pub node : Table → State → (w : Ty) → ℕ → Work (Of w)
   node t s w n = below (t .nodes) (eval ps (storeOf s) t) w n
 
-  -- row n, of its kind
+  -- row n, at which the state stands, by its kind. "Row 38 works out start and end"
   unfoldable pub rowRule : Table → State → ℕ → Row → ℕ → ℕ → ℕ → Work Move
   rowRule t s n skip a b c = give (to (past s))
   rowRule t s n assign a b c = do
@@ -166,7 +169,7 @@ module _ (ps : List ℕ) where
     x ← node t s uint b
     y ← node t s uint c
     loopAt t s n loop x y (pastEnd t n)
-  rowRule t s n loopEnd a b c = again t s (s .loops)
+  rowRule t s n loopEnd a b c = repeatLoop t s (s .loops)
   rowRule t s n reducedStore a b c = do
     p ← node t s pointer a
     x ← node t s uint b
@@ -189,14 +192,15 @@ module _ (ps : List ℕ) where
   unfolding stepAt
   step t s = stepAt t s (s .row)
 
--- what a run reports: its end, the steps taken, the last state and the choices left; or that a step was stuck, which is no end
+-- what a run reports: its end, the steps taken, the last state, and a list: the choices left, or for the choice writer the numbers
+-- written; or that a step was stuck, which is no end
 pub data Report : Type 0 where
   ended : End → ℕ → State → List ℕ → Report
   noEnd : Report
 
 -- after n steps, at s with the choices cs: what the next step comes to, and the run from there.
 -- "A step that ends a run counts and changes nothing else in the record or the cells; its used choices count.
--- The last three ends don't count their step or its choices."
+-- The last three ends don't count their step or its choices." (R13)
 abbrev pub after : ℕ → State → List ℕ → Out Move → (State → List ℕ → Report) → Report
 after n s cs (gives (to s′) cs′) go = go s′ cs′
 after n s cs (gives (stop e) cs′) go = ended e (suc n) s cs′
@@ -205,7 +209,7 @@ after n s cs badChoice go = ended choiceNotAllowed n s cs
 after n s cs noChoice go = ended noChoiceLeft n s cs
 after n s cs stuck go = noEnd
 
--- a run with a limit, after n steps. ""Done" is tested before "out of steps"."
+-- a run with a limit, after n steps. ""Done" is tested before "out of steps"." (R13)
 unfoldable pub run : List ℕ → Table → ℕ → ℕ → State → List ℕ → Report
 unfolding step
 run ps t zero n s cs = if ltb (s .row) (t .rows) then ended outOfSteps n s cs else ended done n s cs

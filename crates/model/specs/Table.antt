@@ -4,7 +4,7 @@ use mathlib.Core.Bool.{Bool, true, false, _&&_}
 use mathlib.Core.List.{List, [], _∷_, _++_}
 use lib.ListN.{getD, length, replicate}
 use lib.Dec.{ltb, leb, eqb}
-use Rattle.lists.specs.Choice.{if_then_else_}
+use Rattle.lists.specs.If.{if_then_else_}
 use Rattle.lists.specs.Tab.{sum}
 use Rattle.lists.specs.First.{walk}
 
@@ -18,7 +18,7 @@ pub record Line : Type 0 where
 abbrev pub lineAt : List ℕ → ℕ → Line
 lineAt w i = record { kind = getD w (4 * i) 0; a = getD w (4 * i + 1) 0; b = getD w (4 * i + 2) 0; c = getD w (4 * i + 3) 0 }
 
--- "Declarations come first, then nodes, then instruction rows": kinds below 16, below 32, and the others
+-- "Declarations come first (at most 32), then nodes (1,024), then instruction rows (256)": kinds below 16, below 32, and the others
 abbrev pub isDeclaration : ℕ → Bool
 isDeclaration k = ltb k 16
 
@@ -55,7 +55,7 @@ nodeAt t n = lineAt (t .words) (t .decls + n)
 abbrev pub rowAt : Table → ℕ → Line
 rowAt t r = lineAt (t .words) (t .decls + t .nodes + r)
 
--- "Declarations: 1 bool, 2 uint, 3 pointer; a is the mark, 0 or 1."
+-- "Declarations: 1 bool, 2 uint, 3 pointer; a is the mark, 0 or 1." Any other number reads as a pointer here; 5 refuses it
 pub data Ty : Type 0 where
   bool uint pointer : Ty
 
