@@ -14,4 +14,6 @@ pub mod ReduceLaws
 pub mod Typing
 pub mod Safe
 pub mod SafeStep
+pub mod ReducedAccepted
+pub mod Demand3Proof
 pub mod ExampleProof

@@ -185,7 +185,7 @@ module _ (m : MachineKind) (t : Table) (ty : ℕ → Ty) where
       (ltb-true a n (h .0), ltb-true b n (h .1), same-ty _ _ (and-left (sameTy (ty a) uint) (sameTy (ty b) uint) z), same-ty _ _ (and-right (sameTy (ty a) uint) (sameTy (ty b) uint) z), q)
 
   -- g: the types of the nodes below n
-  fits : (k : Node) (a b c n : ℕ) (g : ℕ → Ty) → ((j : ℕ) → j < n → g j ≡ ty j) → typeBy t k a b g ≡ ty n
+  fits : (k : Node) (a b c n : ℕ) (g : ℕ → Ty) → ((j : ℕ) → j < n → g j ≡ ty j) → typeBy (typeAt t) k a b g ≡ ty n
       → hasNode (isReduced m) k ≡ true → allThere (nodeRoles k) (t .decls) n (record { kind = 0; a = a; b = b; c = c }) ≡ true → typedNode ty k a b c ≡ true
       → nodeSuits (isReduced m) k (markedUint t a) ≡ true → Fits m t ty k a b c n
   unfolding nodeRoles
@@ -283,9 +283,9 @@ module _ (m : MachineKind) (t : Table) (A : Accepted m t) where
   unfolding rowKind
   line-row i = elim (decLe (lines t) i) [ yes h ↦ rw (no-line i h) refl | no h ↦ has-row m (lineAt (t .words) i .kind) (line-known i (omega arith)) ]
 
-  type-is : (n : ℕ) → nodeType t n ≡ typeBy t (nodeKind (nodeAt t n .kind)) (nodeAt t n .a) (nodeAt t n .b) (λ j. if ltb j n then nodeType t j else bool)
+  type-is : (n : ℕ) → nodeType t n ≡ typeBy (typeAt t) (nodeKind (nodeAt t n .kind)) (nodeAt t n .a) (nodeAt t n .b) (λ j. if ltb j n then nodeType t j else bool)
   unfolding nodeType
-  type-is n = value-is (λ m ty. typeBy t (nodeKind (nodeAt t m .kind)) (nodeAt t m .a) (nodeAt t m .b) ty) bool n
+  type-is n = value-is (λ m ty. typeBy (typeAt t) (nodeKind (nodeAt t m .kind)) (nodeAt t m .a) (nodeAt t m .b) ty) bool n
 
   pub node-fits : (n : ℕ) → n < t .nodes → Fits m t (nodeType t) (nodeKind (nodeAt t n .kind)) (nodeAt t n .a) (nodeAt t n .b) (nodeAt t n .c) n
   unfolding nodeThere nodeTyped nodeSuitsMark

@@ -46,27 +46,27 @@ nodeThere t n = allThere (nodeRoles (nodeKind (nodeAt t n .kind))) (t .decls) n 
 unfoldable pub rowThere : Table → ℕ → Bool
 rowThere t r = allThere (rowRoles (rowKind (rowAt t r .kind))) (t .decls) (t .nodes) (rowAt t r)
 
--- the type that a node gives, by its kind, its operands and the types of smaller nodes; "New kinds have the operands and types of
+-- the type that a node gives, by the types of the variables, its kind, its operands and the types of smaller nodes; "New kinds have the operands and types of
 -- those they replace"
-abbrev pub typeBy : Table → Node → ℕ → ℕ → (ℕ → Ty) → Ty
-typeBy t variable a b ty = typeAt t a
-typeBy t uintConstant a b ty = uint
-typeBy t boolConstant a b ty = bool
-typeBy t cell a b ty = uint
-typeBy t plus a b ty = ty a
-typeBy t minus a b ty = ty a
-typeBy t less a b ty = bool
-typeBy t atMost a b ty = bool
-typeBy t equal a b ty = bool
-typeBy t conditional a b ty = ty b
-typeBy t valid a b ty = bool
-typeBy t classVariable a b ty = typeAt t a
-typeBy t reducedCell a b ty = uint
-typeBy t reducedValid a b ty = bool
-typeBy t noNode a b ty = bool
+abbrev pub typeBy : (ℕ → Ty) → Node → ℕ → ℕ → (ℕ → Ty) → Ty
+typeBy vars variable a b ty = vars a
+typeBy vars uintConstant a b ty = uint
+typeBy vars boolConstant a b ty = bool
+typeBy vars cell a b ty = uint
+typeBy vars plus a b ty = ty a
+typeBy vars minus a b ty = ty a
+typeBy vars less a b ty = bool
+typeBy vars atMost a b ty = bool
+typeBy vars equal a b ty = bool
+typeBy vars conditional a b ty = ty b
+typeBy vars valid a b ty = bool
+typeBy vars classVariable a b ty = vars a
+typeBy vars reducedCell a b ty = uint
+typeBy vars reducedValid a b ty = bool
+typeBy vars noNode a b ty = bool
 
 unfoldable pub nodeType : Table → ℕ → Ty
-nodeType t n = valueAt (λ m ty. typeBy t (nodeKind (nodeAt t m .kind)) (nodeAt t m .a) (nodeAt t m .b) ty) bool n
+nodeType t n = valueAt (λ m ty. typeBy (typeAt t) (nodeKind (nodeAt t m .kind)) (nodeAt t m .a) (nodeAt t m .b) ty) bool n
 
 abbrev pub tyNumber : Ty → ℕ
 tyNumber bool = 1
