@@ -197,10 +197,10 @@ module _ (ps : List ℕ) (t u : Table) (R : ReducesRows t u) (ks : List Bool) wh
   match-loop A n classLoop h x y o = absurd h
   match-loop A n noRow h x y o = matches-wrong
 
-  match-repeatLoop : {p r : State} → Linked ps t ks p r → (ls : List Loop)
+  match-repeat : {p r : State} → Linked ps t ks p r → (ls : List Loop)
       → Matches (Moves (Linked ps t ks)) (repeatLoop [] t p ls) (repeatLoop ps u r ls) (repeatChoices ps t ks p ls)
-  match-repeatLoop A [] = matches-wrong
-  match-repeatLoop {p} {r} A (l ∷ ls) =
+  match-repeat A [] = matches-wrong
+  match-repeat {p} {r} A (l ∷ ls) =
       matches-bind (match-still (still-add (l .start) 1))
       (λ x. rw (R .kind (l .row))
       (match-loop {p = withLoops p ls} {r = withLoops r ls} (record { row = A .row; loops = refl; vars = A .vars; memory = A .memory }) (l .row) (rowKind (rowAt t (l .row) .kind)) (R .plain (l .row)) x (l .end)
@@ -337,7 +337,7 @@ module _ (ps : List ℕ) (t u : Table) (R : ReducesRows t u) (ks : List Bool) (s
       loop-row true = refl
       loop-row false = refl
   match-row {p} {r} A n loopEnd h b c =
-      subst (λ ls. Matches (Moves (Linked ps t ks)) (repeatLoop [] t p (p .loops)) (repeatLoop ps u r ls) (repeatChoices ps t ks p (p .loops))) (sym (A .loops)) (match-repeatLoop ps t u R ks A (p .loops))
+      subst (λ ls. Matches (Moves (Linked ps t ks)) (repeatLoop [] t p (p .loops)) (repeatLoop ps u r ls) (repeatChoices ps t ks p (p .loops))) (sym (A .loops)) (match-repeat ps t u R ks A (p .loops))
   match-row A n reducedStore h b c = absurd h
   match-row A n reducedArray h b c = absurd h
   match-row A n classLoop h b c = absurd h

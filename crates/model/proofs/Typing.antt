@@ -193,12 +193,12 @@ module _ (m : MachineKind) (t : Table) (ty : ℕ → Ty) where
   fits uintConstant a b c n g e q x y z u = q
   fits boolConstant a b c n g e q x y z u = q
   fits cell a b c n g e q x y z u = (ltb-true a n (three (ltb a n) true true y .0), same-ty _ _ z, q, is-plain m x)
-  fits plus a b c n g e q x y z u = 
+  fits plus a b c n g e q x y z u =
       let h = three (ltb a n) (ltb b n) true y in
       let l : a < n = ltb-true a n (h .0) in
       let p : ty a ≡ ty n = sym (e a l) ∙ q in
       (l, ltb-true b n (h .1), p, subst Moving p (is-moving (ty a) (and-left (not (sameTy (ty a) bool)) (sameTy (ty b) uint) z)), same-ty _ _ (and-right (not (sameTy (ty a) bool)) (sameTy (ty b) uint) z))
-  fits minus a b c n g e q x y z u = 
+  fits minus a b c n g e q x y z u =
       let h = three (ltb a n) (ltb b n) true y in
       let l : a < n = ltb-true a n (h .0) in
       let p : ty a ≡ ty n = sym (e a l) ∙ q in
@@ -206,7 +206,7 @@ module _ (m : MachineKind) (t : Table) (ty : ℕ → Ty) where
   fits less a b c n g e q x y z u = compared a b n y z q
   fits atMost a b c n g e q x y z u = compared a b n y z q
   fits equal a b c n g e q x y z u = compared a b n y z q
-  fits conditional a b c n g e q x y z u = 
+  fits conditional a b c n g e q x y z u =
       let h = three (ltb a n) (ltb b n) (ltb c n) y in
       let l : b < n = ltb-true b n (h .1) in
       let p : ty b ≡ ty n = sym (e b l) ∙ q in
@@ -241,7 +241,7 @@ module _ (m : MachineKind) (t : Table) (ty : ℕ → Ty) where
       → typedRow (typeAt t) ty k a b c ≡ true → rowSuits (isReduced m) k (markedUint t a) (markedPointer t a) ≡ true → RowFits m t ty k a b c
   unfolding rowRoles
   row-fits skip a b c x y z u = tt
-  row-fits assign a b c x y z u = 
+  row-fits assign a b c x y z u =
       let h = three (ltb a (t .decls)) (ltb b (t .nodes)) true y in
       (ltb-true a (t .decls) (h .0), ltb-true b (t .nodes) (h .1), same-ty _ _ z, classed-none m t a (not-true (markedUint t a) u))
   row-fits store a b c x y z u = let s = stored a b y z in (s .0, s .1, s .2, s .3, is-plain m x)
