@@ -12,7 +12,7 @@ use Rattle.model.specs.Table.{Table, Line, lineAt, lines, nodeAt, rowAt,
 use Rattle.model.specs.Table.Ty.{bool, uint, pointer}
 use Rattle.model.specs.Table.Node.{variable, uintConstant, boolConstant, cell, plus, minus, less, atMost, equal, conditional, valid, classVariable, reducedCell, reducedValid, noNode}
 use Rattle.model.specs.Table.Row.{skip, assign, store, assert, assume, array, loop, loopEnd, reducedStore, reducedArray, classLoop, noRow}
-use Rattle.model.specs.Table.Role.{unused, mark, number, flag, aVariable, aNode}
+use Rattle.model.specs.Table.Role.{unused, flag, number, aVariable, aNode}
 use Rattle.model.specs.Table.Nest.{opens, closes, neither}
 use Rattle.model.specs.State.{MachineKind, Value, Array, Loop, State, classed}
 use Rattle.model.specs.State.MachineKind.{plain, reduced}
@@ -31,9 +31,8 @@ known reduced k = (between 1 3 k || between 16 29 k || between 32 42 k) && not (
 -- 8: "a variable or node not there, or not smaller" (R8): vs declarations, and nodes below a bound
 abbrev pub there : Role → ℕ → ℕ → ℕ → Bool
 there unused vs bound x = true
-there mark vs bound x = true
-there number vs bound x = true
 there flag vs bound x = true
+there number vs bound x = true
 there aVariable vs bound x = ltb x vs
 there aNode vs bound x = ltb x bound
 

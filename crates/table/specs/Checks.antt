@@ -1,0 +1,54 @@
+-- The checks of a table as one answer: refused by the first number, in order, that a line breaks, at the first line that breaks it.
+use Prim.Native.Nat.{ℕ, zero, suc, _+_, _-_, _/_, _%_}
+use mathlib.Core.Bool.{Bool, true, false, not, _&&_, _||_}
+use mathlib.Core.List.{List, [], _∷_}
+use lib.ListN.{length}
+use lib.Dec.{ltb, leb, eqb}
+use Rattle.lists.specs.If.{if_then_else_}
+use Rattle.lists.specs.First.{first}
+use Rattle.lists.specs.declared.Found.{Found}
+use Rattle.lists.specs.declared.Found.the-variants.{At, Nothing}
+use Rattle.model.specs.Table.{Table, tableOf}
+use Rattle.model.specs.State.{MachineKind}
+use Rattle.model.specs.State.MachineKind.{plain, reduced}
+use Rattle.table.specs.declared.Verdict.{Verdict}
+use Rattle.table.specs.declared.Verdict.the-variants.{Passes, Refused}
+use Rattle.table.specs.Rules.{breaks5, breaks6, breaks7, breaks8, breaks9, breaks10, breaks11, breaks12}
+
+-- the rule of a number
+unfoldable pub breaks : ℕ → MachineKind → Table → ℕ → Bool
+breaks k m t i =
+    if eqb k 5 then breaks5 m t i
+    else (if eqb k 6 then breaks6 t i
+    else (if eqb k 7 then breaks7 t i
+    else (if eqb k 8 then breaks8 t i
+    else (if eqb k 9 then breaks9 t i
+    else (if eqb k 10 then breaks10 t i
+    else (if eqb k 11 then breaks11 t i
+    else (if eqb k 12 then breaks12 m t i
+    else false)))))))
+
+-- "Tested in this order, each over the whole input"
+abbrev pub order : List ℕ
+order = 5 ∷ 6 ∷ 7 ∷ 8 ∷ 9 ∷ 10 ∷ 11 ∷ 12 ∷ []
+
+-- "the place is the first that breaks it"
+abbrev pub refusedAt : Found → ℕ → Verdict → Verdict
+refusedAt (At line) k rest = Refused k line
+refusedAt Nothing k rest = rest
+
+unfoldable pub firstRefusal : (ℕ → Found) → List ℕ → Verdict
+firstRefusal f [] = Passes
+firstRefusal f (k ∷ ks) = let rest = firstRefusal f ks in refusedAt (f k) k rest
+
+-- 4: "words no multiple of 4", at place 0; then the others
+unfoldable pub tableCheck : MachineKind → List ℕ → Verdict
+tableCheck m w =
+    if eqb (length w % 4) 0
+    then firstRefusal (λ k. first (breaks k m (tableOf w)) 0 (length w / 4)) order
+    else Refused 4 0
+
+-- whose table it is, as the code is told
+abbrev pub machineOf : Bool → MachineKind
+machineOf false = plain
+machineOf true = reduced

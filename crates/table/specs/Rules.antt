@@ -1,0 +1,110 @@
+-- The rules 5 to 12 of a table's line (document 01, "Refusals by checking place"): line i breaks the rule.
+-- What demand 3 needs of them is said in the model (specs/Accepted), and is used from there.
+use Prim.Native.Nat.{ℕ, zero, suc, _+_, _-_, max}
+use mathlib.Core.Bool.{Bool, true, false, not, _&&_, _||_}
+use mathlib.Core.List.{List}
+use lib.ListN.{length}
+use lib.Dec.{ltb, leb, eqb}
+use Rattle.lists.specs.If.{if_then_else_}
+use Rattle.lists.specs.Falling.{valueAt}
+use Rattle.model.specs.Table.{Table, Line, lineAt, isDeclaration, isNode, isRow, nodeAt, Role, Roles, declarationRoles, nodeRoles, rowRoles, nodeKind, rowKind, Nest, nestAt, matchingEnd, openAt}
+use Rattle.model.specs.Table.Role.{unused, flag, number, aVariable, aNode}
+use Rattle.model.specs.Table.Nest.{opens, closes, neither}
+use Rattle.model.specs.State.{MachineKind}
+use Rattle.model.specs.Accepted.{known, nodeThere, rowThere, nodeTyped, rowTyped, noneOpen, nodeSuitsMark, rowSuitsMark}
+
+abbrev pub kindAt : Table → ℕ → ℕ
+kindAt t i = lineAt (t .words) i .kind
+
+-- the sort of a kind: declaration, node, row
+abbrev pub sortNumber : ℕ → ℕ
+sortNumber k = if isDeclaration k then 0 else (if isNode k then 1 else 2)
+
+-- a rule of nodes and rows, by their numbers in their sort
+abbrev pub ofNodeOrRow : (ℕ → Bool) → (ℕ → Bool) → Table → ℕ → Bool
+ofNodeOrRow node row t i =
+    if isDeclaration (kindAt t i) then false
+    else (if isNode (kindAt t i) then node (i - t .decls) else row (i - (t .decls + t .nodes)))
+
+-- 5: "unknown kind, or sorts out of order" (R5). The first line whose sort is below that of an earlier line is one whose sort is
+-- below that of the line before it; line 0 has none before it
+unfoldable pub breaks5 : MachineKind → Table → ℕ → Bool
+breaks5 m t i = not (known m (kindAt t i)) || ltb (sortNumber (kindAt t i)) (sortNumber (kindAt t (i - 1)))
+
+-- 6: "a sort over its limit" (R6): "at most 32", "1,024", "256"
+abbrev pub mostDeclarations : ℕ
+mostDeclarations = 32
+
+abbrev pub mostNodes : ℕ
+mostNodes = 1024
+
+abbrev pub mostRows : ℕ
+mostRows = 256
+
+unfoldable pub breaks6 : Table → ℕ → Bool
+breaks6 t i =
+    (isDeclaration (kindAt t i) && leb mostDeclarations i)
+    || ((isNode (kindAt t i) && leb (t .decls + mostNodes) i)
+    || (isRow (kindAt t i) && leb (t .decls + t .nodes + mostRows) i))
+
+-- 7: "zero operand, mark or bool constant wrong" (R7)
+abbrev pub valueSuits : Role → ℕ → Bool
+valueSuits unused x = eqb x 0
+valueSuits flag x = leb x 1
+valueSuits number x = true
+valueSuits aVariable x = true
+valueSuits aNode x = true
+
+unfoldable pub rolesOf : ℕ → Roles
+rolesOf k = if isDeclaration k then declarationRoles k else (if isNode k then nodeRoles (nodeKind k) else rowRoles (rowKind k))
+
+abbrev pub valuesSuit : Roles → Line → Bool
+valuesSuit rs l = valueSuits (rs .a) (l .a) && (valueSuits (rs .b) (l .b) && valueSuits (rs .c) (l .c))
+
+unfoldable pub breaks7 : Table → ℕ → Bool
+breaks7 t i = not (valuesSuit (rolesOf (kindAt t i)) (lineAt (t .words) i))
+
+-- 8: "a variable or node not there, or not smaller" (R8)
+unfoldable pub breaks8 : Table → ℕ → Bool
+breaks8 t i = ofNodeOrRow (λ n. not (nodeThere t n)) (λ r. not (rowThere t r)) t i
+
+-- 9: "types" (R9)
+unfoldable pub breaks9 : Table → ℕ → Bool
+breaks9 t i = ofNodeOrRow (λ n. not (nodeTyped t n)) (λ r. not (rowTyped t r)) t i
+
+-- "A node's depth is 1 plus the greatest depth of its operands; a leaf has 1."
+abbrev pub operandDepth : Role → (ℕ → ℕ) → ℕ → ℕ
+operandDepth unused below x = 0
+operandDepth flag below x = 0
+operandDepth number below x = 0
+operandDepth aVariable below x = 0
+operandDepth aNode below x = below x
+
+abbrev pub depthBy : Roles → (ℕ → ℕ) → Line → ℕ
+depthBy rs below l = 1 + max (operandDepth (rs .a) below (l .a)) (max (operandDepth (rs .b) below (l .b)) (operandDepth (rs .c) below (l .c)))
+
+unfoldable pub depth : Table → ℕ → ℕ
+depth t n = valueAt (λ m below. depthBy (nodeRoles (nodeKind (nodeAt t m .kind))) below (nodeAt t m)) 0 n
+
+-- 10: "depth above 12"
+abbrev pub mostDepth : ℕ
+mostDepth = 12
+
+unfoldable pub breaks10 : Table → ℕ → Bool
+breaks10 t i = ofNodeOrRow (λ n. ltb mostDepth (depth t n)) (λ r. false) t i
+
+-- 11: "end with no open loop, loop never closed, loop inside eight" (R10)
+abbrev pub mostOpen : ℕ
+mostOpen = 8
+
+abbrev pub nestBreaks : Nest → List ℕ → Bool → Bool
+nestBreaks opens os unclosed = unclosed || leb mostOpen (length os)
+nestBreaks closes os unclosed = noneOpen os
+nestBreaks neither os unclosed = false
+
+unfoldable pub breaks11 : Table → ℕ → Bool
+breaks11 t i = ofNodeOrRow (λ n. false) (λ r. nestBreaks (nestAt t r) (openAt t r) (leb (t .rows) (matchingEnd t r))) t i
+
+-- 12: "row 33 to a marked uint"; of a reduced table "also a kind that the reduction would not give that variable" (R11)
+unfoldable pub breaks12 : MachineKind → Table → ℕ → Bool
+breaks12 m t i = ofNodeOrRow (λ n. not (nodeSuitsMark m t n)) (λ r. not (rowSuitsMark m t r)) t i
