@@ -3,7 +3,9 @@
 use Prim.Native.Nat.{ℕ, zero, suc, _+_, _-_, _<_, _≤_}
 use native.Mathlib.Omega.{arith}
 use native.Mathlib.Numerals.{add-one}
+use native.Mathlib.Nat.{not-suc-le-zero, eq-or-lt-of-le}
 use mathlib.Core.Path.{_≡_, refl}
+use mathlib.Core.Logic.{⊎-elim}
 use mathlib.Core.Bool.{Bool, true, false}
 use Rattle.lists.specs.declared.Found.{Found}
 use Rattle.lists.specs.declared.Found.the-variants.{At, Nothing}
@@ -33,3 +35,23 @@ pub first-nowhere : (n : ℕ) (f : ℕ → Bool) (i : ℕ) → ((j : ℕ) → j 
 unfolding walk
 first-nowhere zero f i h = refl
 first-nowhere (suc n) f i h = rw (h i (omega arith)) (first-nowhere n f (suc i) (λ j l. h j (omega arith)))
+
+-- a place that was found is one of those looked at
+pub first-below : (n : ℕ) (f : ℕ → Bool) (i k : ℕ) → first f i n ≡ At k → k < i + n
+unfolding walk
+first-below zero f i k e = let no : _≡_ {A = ℕ} 0 1 = cc in omega arith
+first-below (suc n) f i k e = go (f i) e (first-below n f (suc i) k)
+  where
+    go : (b : Bool) → found b i (first f (suc i) n) ≡ At k → (first f (suc i) n ≡ At k → k < suc i + n) → k < i + suc n
+    go true w later = let same : i ≡ k = cc in omega arith
+    go false w later = omega (arith, later w)
+
+-- where none was found the test holds nowhere
+pub first-nowhere-at : (n : ℕ) (f : ℕ → Bool) (i : ℕ) → first f i n ≡ Nothing → (j : ℕ) → i ≤ j → j < i + n → f j ≡ false
+unfolding walk
+first-nowhere-at zero f i e j l m = absurd (not-suc-le-zero {n = 0} (omega arith))
+first-nowhere-at (suc n) f i e j l m = go (f i) refl e (λ w less. first-nowhere-at n f (suc i) w j less (omega arith))
+  where
+    go : (b : Bool) → f i ≡ b → found b i (first f (suc i) n) ≡ Nothing → (first f (suc i) n ≡ Nothing → i < j → f j ≡ false) → f j ≡ false
+    go true q w later = let no : _≡_ {A = ℕ} 0 1 = cc in absurd (not-suc-le-zero {n = 0} (omega arith))
+    go false q w later = ⊎-elim (λ same. rw same at q) (later w) (eq-or-lt-of-le l)

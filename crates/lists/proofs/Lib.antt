@@ -2,4 +2,5 @@
 pub mod TabLaws
 pub mod FirstLaws
 pub mod FallingLaws
+pub mod CountLaws
 pub mod Flags

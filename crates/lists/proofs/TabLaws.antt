@@ -8,7 +8,7 @@ use mathlib.Core.Path.{_≡_, refl, sym, ap, _∙_}
 use mathlib.Core.Logic.{⊎-elim}
 use mathlib.Core.Bool.{Bool, true, false, _&&_, false≢true}
 use mathlib.Core.List.{List, [], _∷_, _++_}
-use lib.ListN.{length, getD, take, set, length-append, length-take, List·getD-append}
+use lib.ListN.{length, getD, take, set, length-append, length-take, List·getD-append, List·getD-eq-default}
 use lib.Seq.{getD-at, take-suc-set, take-all, ext-getD, getD-take}
 use Rattle.lists.specs.Tab.{listed, tab, sum, all, padded}
 
@@ -67,6 +67,21 @@ all-at (suc n) f e i l = go (all n f) (f n) refl refl e (λ u h. all-at n f u i 
     go true false u v w ih = absurd (false≢true w)
     go false d u v w ih = absurd (false≢true w)
 
+-- one place at which it fails
+pub all-stop : (n : ℕ) (f : ℕ → Bool) (i : ℕ) → i < n → f i ≡ false → all n f ≡ false
+unfolding all
+all-stop zero f i l h = absurd (not-suc-le-zero l)
+all-stop (suc n) f i l h = ⊎-elim (λ q. at-end (all n f) (rw q at h)) (λ m. rw (all-stop n f i m h)) (eq-or-lt-of-le (le-of-suc-le-suc l))
+  where
+    at-end : (b : Bool) → f n ≡ false → (b && f n) ≡ false
+    at-end true e = e
+    at-end false e = refl
+
+-- a list is given by its own places
+pub tab-itself : (xs : List ℕ) (n : ℕ) → length xs ≡ n → tab n (λ j. getD xs j 0) ≡ xs
+tab-itself xs n e =
+    ext-getD 0 _ xs (length-tab n _ ∙ sym e) (λ i l. at-tab n _ 0 i (rw (length-tab n (λ j. getD xs j 0)) at l))
+
 -- ---- the loops that make a list or a sum, one place a turn
 
 pub tab-none : {A : Type 0} (f : ℕ → A) (l : List A) → take 0 l ≡ tab 0 f
@@ -81,6 +96,11 @@ tab-more f l i v h e w = rw (add-one i, take-suc-set l i v h, tab-snoc i f, e, w
 pub tab-all : {A : Type 0} (f : ℕ → A) (l : List A) (n : ℕ) → length l ≡ n → take n l ≡ tab n f → l ≡ tab n f
 tab-all f l n h e = let long : length l ≤ n = omega arith in sym (take-all n l long) ∙ e
 
+-- a test that held below i, and at i
+pub all-more : (f : ℕ → Bool) (i : ℕ) → all i f ≡ true → f i ≡ true → all (i + 1) f ≡ true
+unfolding all
+all-more f i e h = rw (add-one i, e, h)
+
 pub sum-more : (f : ℕ → ℕ) (n : ℕ) → sum (n + 1) f ≡ sum n f + f n
 unfolding sum
 sum-more f n = rw (add-one n)
@@ -91,3 +111,15 @@ take-padded xs n l =
     let long : length (take (length xs) (padded n xs)) ≡ length xs = simp (length-take, length-tab) (omega arith) in
     ext-getD 0 _ xs long
     (λ i h. let m : i < length xs = rw long at h in getD-take (length xs) (padded n xs) i 0 m ∙ at-tab n _ 0 i (omega arith))
+
+-- ---- the loop that makes a list zero from a place on
+
+module _ (l : List ℕ) (from : ℕ) where
+  pub zero-none : from ≤ length l → take from l ≡ tab from (λ j. getD (take from l) j 0)
+  zero-none h = sym (tab-itself (take from l) from (simp length-take (omega arith)))
+
+  pub zero-more : (m : List ℕ) (i : ℕ) → i < length m → from ≤ i → take i m ≡ tab i (λ j. getD (take from l) j 0)
+      → take (i + 1) (set m i 0) ≡ tab (i + 1) (λ j. getD (take from l) j 0)
+  zero-more m i h past e =
+      let short : length (take from l) ≤ i = simp length-take (omega arith) in
+      tab-more _ m i 0 h e (sym (List·getD-eq-default (take from l) 0 short))

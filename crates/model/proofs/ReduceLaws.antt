@@ -12,6 +12,7 @@ use borrow.Author.Tests.{le-leb, lt-leb, eq-eqb, ne-eqb, eqb-true}
 use Rattle.lists.specs.If.{if_then_else_}
 use Rattle.lists.specs.Tab.{all}
 use Rattle.lists.proofs.TabLaws.{all-at, at-tab, length-tab, same-sum}
+use Rattle.lists.proofs.CountLaws.{bit}
 use Rattle.model.specs.Table.{Node, Row, Table, Ty, count, isDeclaration, isNode, isRow, lineAt, marked, nodeAt, nodeKind, nodeKinds, rowAt, rowKind, rowKinds, tableOf, typeOf}
 use Rattle.model.specs.Table.Ty.{bool, uint, pointer}
 use Rattle.model.specs.Table.Node.{variable, uintConstant, boolConstant, cell, plus, minus, less, atMost, equal, conditional, valid, classVariable, reducedCell, reducedValid, noNode}
@@ -139,10 +140,6 @@ by-kinds f g e h u q k = elim (decLe 43 k) [ yes l ↦ h u q k l | no l ↦ eqb-
     case true false = and-right (agree f g true true) (agree f g true false) left
     case false true = and-left (agree f g false true) (agree f g false false) right
     case false false = and-right (agree f g false true) (agree f g false false) right
-
--- a Bool as a number
-abbrev pub bit : Bool → ℕ
-bit b = if b then 1 else 0
 
 bit-back : (b c : Bool) → bit b ≡ bit c → b ≡ c
 bit-back true true e = refl

@@ -1,0 +1,83 @@
+-- What the reader answers for any bytes, and the words that it leaves in the buffer lent.
+-- "Tested in this order, each over the whole input; the place is the first that breaks it."
+use Prim.Native.Nat.{ℕ, _+_, _-_, _*_, _/_, _%_}
+use mathlib.Core.Bool.{Bool, not, _&&_, _||_}
+use mathlib.Core.List.{List}
+use lib.ListN.{length}
+use lib.Dec.{eqb, ltb}
+use Rattle.lists.specs.If.{if_then_else_}
+use Rattle.lists.specs.Tab.{tab, sum, all, padded}
+use Rattle.lists.specs.First.{first}
+use Rattle.lists.specs.declared.Found.{Found}
+use Rattle.lists.specs.declared.Found.the-variants.{At, Nothing}
+use Rattle.file.specs.declared.Read.{Read}
+use Rattle.file.specs.declared.Read.the-variants.{Lines, Refused}
+use Rattle.file.specs.Word.{wordAt}
+use Rattle.file.specs.Layout.{checkOf}
+
+-- word r of block k
+abbrev pub word : List ℕ → ℕ → ℕ → ℕ
+word bs k r = wordAt bs (512 * k + 4 * r)
+
+-- "Blocks of 512 bytes"
+abbrev pub blocks : List ℕ → ℕ
+blocks bs = length bs / 512
+
+-- "lines in all is, in every block, the sum over the file": of all counts as they stand, in whole numbers (R3)
+abbrev pub linesInAll : List ℕ → ℕ
+linesInAll bs = sum (blocks bs) (λ k. word bs k 125)
+
+-- 1: "length no multiple of 512, or above 22,016"
+abbrev pub wrongLength : ℕ → Bool
+wrongLength n = not (eqb (n % 512) 0) || ltb 22016 n
+
+-- 2: "a check differs"
+abbrev pub wrongCheck : List ℕ → ℕ → Bool
+wrongCheck bs k = not (eqb (checkOf (word bs k)) (word bs k 127))
+
+-- "All but the last hold 31 lines, the last 1 to 31" (R4)
+abbrev pub wrongCount : ℕ → Bool → Bool
+wrongCount c last = ltb c 1 || ltb 31 c || (not last && not (eqb c 31))
+
+-- "unused lines are zero": the words from 4 * c on, of the 124 that are lines; none if c is 31 or above
+abbrev pub unusedZero : List ℕ → ℕ → ℕ → Bool
+unusedZero bs k c = all (124 - 4 * c) (λ r. eqb (word bs k (4 * c + r)) 0)
+
+-- 3: "block number, counts or zero fill wrong, or above 1,312 lines in all" (R3), n being the lines in all
+unfoldable pub wrongBlock : List ℕ → ℕ → ℕ → Bool
+wrongBlock bs n k =
+    not (eqb (word bs k 124) k)
+    || wrongCount (word bs k 125) (eqb (k + 1) (blocks bs))
+    || not (eqb (word bs k 126) n)
+    || ltb 1312 n
+    || not (unusedZero bs k (word bs k 125))
+
+-- the refusal with this number at the block that was found, else what comes after
+abbrev pub refusedAt : ℕ → Found → Read → Read
+refusedAt number (At k) rest = Refused number k
+refusedAt number Nothing rest = rest
+
+-- the answer, for a buffer of so many words: 1, 2, 3, then 14, "words .. not the stated size" (R12), else the number of lines
+unfoldable pub readAnswer : List ℕ → ℕ → Read
+readAnswer bs room =
+    if wrongLength (length bs) then Refused 1 0 else
+    refusedAt 2 (first (wrongCheck bs) 0 (blocks bs))
+    (refusedAt 3 (first (wrongBlock bs (linesInAll bs)) 0 (blocks bs))
+    (if eqb room 5248 then Lines (linesInAll bs) else Refused 14 0))
+
+-- the table's words: 31 lines, 124 words, in a block
+abbrev pub tableWord : List ℕ → ℕ → ℕ
+tableWord bs i = word bs (i / 124) (i % 124)
+
+-- those of n lines
+abbrev pub tableWords : List ℕ → ℕ → List ℕ
+tableWords bs n = tab (4 * n) (tableWord bs)
+
+-- "The reader fills 5,248 words ..., the rest zero"; a refusal leaves the buffer as it was
+abbrev pub bufferAfter : Read → List ℕ → List ℕ → List ℕ
+bufferAfter (Lines n) bs buffer = padded 5248 (tableWords bs n)
+bufferAfter (Refused number place) bs buffer = buffer
+
+-- the words lent, after reading
+unfoldable pub readBuffer : List ℕ → List ℕ → List ℕ
+readBuffer bs buffer = bufferAfter (readAnswer bs (length buffer)) bs buffer

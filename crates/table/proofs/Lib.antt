@@ -1,0 +1,2 @@
+-- The theory of the table checks, which the crates above cite.
+pub mod Sizes
