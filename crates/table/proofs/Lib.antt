@@ -1,2 +1,4 @@
 -- The theory of the table checks, which the crates above cite.
 pub mod Sizes
+pub mod Closed
+pub mod Passing

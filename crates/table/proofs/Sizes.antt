@@ -24,11 +24,11 @@ use Rattle.table.specs.Checks.{breaks}
 
 -- ---- Bools
 
-or-left : (b c : Bool) → (b || c) ≡ false → b ≡ false
+pub or-left : (b c : Bool) → (b || c) ≡ false → b ≡ false
 or-left true c e = e
 or-left false c e = refl
 
-or-right : (b c : Bool) → (b || c) ≡ false → c ≡ false
+pub or-right : (b c : Bool) → (b || c) ≡ false → c ≡ false
 or-right true c e = absurd (true≢false e)
 or-right false c e = e
 

@@ -1,0 +1,180 @@
+-- A table that passes the checks is accepted, in the sense in which demand 3 asks it.
+-- Assumes nothing.
+use Prim.Native.Nat.{ℕ, zero, suc, _+_, _-_, _*_, _/_, _%_, _<_, _≤_}
+use native.Mathlib.Omega.{arith}
+use mathlib.Core.Path.{_≡_, refl, sym, ap, _∙_, subst}
+use mathlib.Core.Bool.{Bool, true, false, not, _&&_, _||_, false≢true, true≢false}
+use mathlib.Core.List.{List, [], _∷_}
+use lib.ListN.{length}
+use lib.Dec.{ltb, leb, eqb}
+use borrow.Author.Tests.{eqb-true, leb-false, ltb-false}
+use Rattle.lists.specs.declared.Found.{Found}
+use Rattle.lists.specs.declared.Found.the-variants.{At, Nothing}
+use Rattle.table.specs.declared.Verdict.{Verdict}
+use Rattle.table.specs.declared.Verdict.the-variants.{Passes, Refused}
+use Rattle.lists.specs.If.{if_then_else_}
+use Rattle.lists.specs.First.{first}
+use Rattle.lists.proofs.TabLaws.{all-true}
+use Rattle.lists.proofs.FirstLaws.{first-nowhere-at}
+use Rattle.model.specs.Table.{Nest, Table, lineAt, lines, matchingEnd, nestAt, openAt, tableOf}
+use Rattle.model.specs.Table.Nest.{opens, closes, neither}
+use Rattle.model.specs.State.{MachineKind}
+use Rattle.model.specs.Step.{node}
+use Rattle.model.specs.Accepted.{Accepted, endsOpen, known, nodeSuitsMark, nodeThere, nodeTyped, noneOpen, rowOpened, rowSuitsMark, rowThere, rowTyped}
+use Rattle.table.specs.Rules.{breaks10, breaks11, breaks12, breaks8, breaks9, depth, mostDepth, mostOpen, nestBreaks, ofNodeOrRow}
+use Rattle.table.specs.Checks.{breaks, firstRefusal, order, refusedAt, tableCheck}
+use Rattle.table.proofs.Sizes.{all-lines, line-known, no-declaration, no-node-at, node-at, not-false, or-left, or-right}
+use Rattle.table.proofs.Closed.{none-open}
+
+-- no line breaks the rule of the number
+abbrev pub Unbroken : ℕ → MachineKind → List ℕ → Type 0
+Unbroken k m w = first (breaks k m (tableOf w)) 0 (length w / 4) ≡ Nothing
+
+-- what passing says, number by number
+pub record Passing (m : MachineKind) (w : List ℕ) : Type 0 where
+  pub whole : length w % 4 ≡ 0
+  pub none5 : Unbroken 5 m w
+  pub none6 : Unbroken 6 m w
+  pub none7 : Unbroken 7 m w
+  pub none8 : Unbroken 8 m w
+  pub none9 : Unbroken 9 m w
+  pub none10 : Unbroken 10 m w
+  pub none11 : Unbroken 11 m w
+  pub none12 : Unbroken 12 m w
+
+one-passes : (f : ℕ → Found) (k : ℕ) (ks : List ℕ) → firstRefusal f (k ∷ ks) ≡ Passes → (f k ≡ Nothing) × (firstRefusal f ks ≡ Passes)
+unfolding firstRefusal
+one-passes f k ks e = go (f k) refl e
+  where
+    go : (o : Found) → f k ≡ o → refusedAt o k (firstRefusal f ks) ≡ Passes → (f k ≡ Nothing) × (firstRefusal f ks ≡ Passes)
+    go (At i) u h = absurd (let z : _≡_ {A = ℕ} 0 1 = cc in omega arith)
+    go Nothing u h = (u, h)
+
+module _ (m : MachineKind) (w : List ℕ) where
+  abbrev find : ℕ → Found
+  find k = first (breaks k m (tableOf w)) 0 (length w / 4)
+
+  pub passing : tableCheck m w ≡ Passes → Passing m w
+  unfolding tableCheck
+  passing e = go (eqb (length w % 4) 0) refl e
+    where
+      go : (b : Bool) → eqb (length w % 4) 0 ≡ b → (if b then firstRefusal find order else Refused 4 0) ≡ Passes → Passing m w
+      go true u h =
+          let p5 = one-passes find 5 _ h in
+          let p6 = one-passes find 6 _ (p5 .1) in
+          let p7 = one-passes find 7 _ (p6 .1) in
+          let p8 = one-passes find 8 _ (p7 .1) in
+          let p9 = one-passes find 9 _ (p8 .1) in
+          let p10 = one-passes find 10 _ (p9 .1) in
+          let p11 = one-passes find 11 _ (p10 .1) in
+          let p12 = one-passes find 12 _ (p11 .1) in
+          record {
+            whole = eqb-true (length w % 4) 0 u;
+            none5 = p5 .0;
+            none6 = p6 .0;
+            none7 = p7 .0;
+            none8 = p8 .0;
+            none9 = p9 .0;
+            none10 = p10 .0;
+            none11 = p11 .0;
+            none12 = p12 .0;
+          }
+      go false u h = absurd (let z : _≡_ {A = ℕ} 0 1 = cc in omega arith)
+
+  -- and back
+  pub passes : Passing m w → tableCheck m w ≡ Passes
+  unfolding tableCheck firstRefusal
+  passes P = rw (P .whole, P .none5, P .none6, P .none7, P .none8, P .none9, P .none10, P .none11, P .none12)
+
+  module _ (P : Passing m w) where
+    abbrev t : Table
+    t = tableOf w
+
+    pub total : lines t ≡ length w / 4
+    total = all-lines m w (P .none5)
+
+    -- line i does not break the rule of the number
+    unbroken : (k : ℕ) → Unbroken k m w → (i : ℕ) → i < lines t → breaks k m t i ≡ false
+    unbroken k h i l = first-nowhere-at (length w / 4) (breaks k m t) 0 h i (omega arith) (omega (arith, total))
+
+    -- a rule of nodes, at a node; a rule of rows, at a row
+    of-node : (node row : ℕ → Bool) (n : ℕ) → n < t .nodes → ofNodeOrRow node row t (t .decls + n) ≡ false → node n ≡ false
+    unfolding tableOf
+    of-node node row n h e =
+        subst (λ (k : ℕ). node k ≡ false) {x = t .decls + n - t .decls} {y = n} (omega arith)
+        (rw (no-declaration m w (P .none5) (t .decls + n) (omega (arith, total)) (omega arith), node-at m w (P .none5) (t .decls + n) (omega (arith, total)) (omega arith) (omega arith)) at e)
+
+    of-row : (node row : ℕ → Bool) (r : ℕ) → r < t .rows → ofNodeOrRow node row t (t .decls + t .nodes + r) ≡ false → row r ≡ false
+    unfolding tableOf
+    of-row node row r h e =
+        subst (λ (k : ℕ). row k ≡ false) {x = t .decls + t .nodes + r - (t .decls + t .nodes)} {y = r} (omega arith)
+        (rw (no-declaration m w (P .none5) (t .decls + t .nodes + r) (omega (arith, total)) (omega arith), no-node-at m w (P .none5) (t .decls + t .nodes + r) (omega (arith, total)) (omega arith)) at e)
+
+    node-there : (n : ℕ) → n < t .nodes → nodeThere t n ≡ true
+    unfolding breaks breaks8
+    node-there n h = not-false (nodeThere t n) (of-node (λ n. not (nodeThere t n)) (λ r. not (rowThere t r)) n h (unbroken 8 (P .none8) (t .decls + n) (omega arith)))
+
+    row-there : (r : ℕ) → r < t .rows → rowThere t r ≡ true
+    unfolding breaks breaks8
+    row-there r h = not-false (rowThere t r) (of-row (λ n. not (nodeThere t n)) (λ r. not (rowThere t r)) r h (unbroken 8 (P .none8) (t .decls + t .nodes + r) (omega arith)))
+
+    node-typed : (n : ℕ) → n < t .nodes → nodeTyped t n ≡ true
+    unfolding breaks breaks9
+    node-typed n h = not-false (nodeTyped t n) (of-node (λ n. not (nodeTyped t n)) (λ r. not (rowTyped t r)) n h (unbroken 9 (P .none9) (t .decls + n) (omega arith)))
+
+    row-typed : (r : ℕ) → r < t .rows → rowTyped t r ≡ true
+    unfolding breaks breaks9
+    row-typed r h = not-false (rowTyped t r) (of-row (λ n. not (nodeTyped t n)) (λ r. not (rowTyped t r)) r h (unbroken 9 (P .none9) (t .decls + t .nodes + r) (omega arith)))
+
+    -- 10, for those above who count on it
+    pub node-depth : (n : ℕ) → n < t .nodes → depth t n ≤ mostDepth
+    unfolding breaks breaks10
+    node-depth n h = ltb-false mostDepth (depth t n) (of-node (λ n. ltb mostDepth (depth t n)) (λ r. false) n h (unbroken 10 (P .none10) (t .decls + n) (omega arith)))
+
+    row-nested : (r : ℕ) → r < t .rows → nestBreaks (nestAt t r) (openAt t r) (leb (t .rows) (matchingEnd t r)) ≡ false
+    unfolding breaks breaks11
+    row-nested r h =
+        of-row (λ n. false) (λ r. nestBreaks (nestAt t r) (openAt t r) (leb (t .rows) (matchingEnd t r))) r h (unbroken 11 (P .none11) (t .decls + t .nodes + r) (omega arith))
+
+    end-open : (r : ℕ) → r < t .rows → rowOpened t r ≡ true
+    unfolding rowOpened
+    end-open r h = go (nestAt t r) (row-nested r h)
+      where
+        go : (n : Nest) → nestBreaks n (openAt t r) (leb (t .rows) (matchingEnd t r)) ≡ false → endsOpen n (openAt t r) ≡ true
+        go opens e = refl
+        go closes e = ap not e
+        go neither e = refl
+
+    loop-closed : (r : ℕ) → r < t .rows → nestAt t r ≡ opens → matchingEnd t r < t .rows
+    loop-closed r h e =
+        leb-false (t .rows) (matchingEnd t r) (or-left (leb (t .rows) (matchingEnd t r)) (leb mostOpen (length (openAt t r)))
+        (subst (λ (n : Nest). nestBreaks n (openAt t r) (leb (t .rows) (matchingEnd t r)) ≡ false) e (row-nested r h)))
+
+    -- 11's "inside eight", for those above who count on it
+    pub few-open : (r : ℕ) → r < t .rows → nestAt t r ≡ opens → length (openAt t r) < mostOpen
+    few-open r h e =
+        leb-false mostOpen (length (openAt t r)) (or-right (leb (t .rows) (matchingEnd t r)) (leb mostOpen (length (openAt t r)))
+        (subst (λ (n : Nest). nestBreaks n (openAt t r) (leb (t .rows) (matchingEnd t r)) ≡ false) e (row-nested r h)))
+
+    node-suits-mark : (n : ℕ) → n < t .nodes → nodeSuitsMark m t n ≡ true
+    unfolding breaks breaks12
+    node-suits-mark n h = not-false (nodeSuitsMark m t n) (of-node (λ n. not (nodeSuitsMark m t n)) (λ r. not (rowSuitsMark m t r)) n h (unbroken 12 (P .none12) (t .decls + n) (omega arith)))
+
+    row-suits-mark : (r : ℕ) → r < t .rows → rowSuitsMark m t r ≡ true
+    unfolding breaks breaks12
+    row-suits-mark r h = not-false (rowSuitsMark m t r) (of-row (λ n. not (nodeSuitsMark m t n)) (λ r. not (rowSuitsMark m t r)) r h (unbroken 12 (P .none12) (t .decls + t .nodes + r) (omega arith)))
+
+    pub accepted : Accepted m t
+    unfolding tableOf
+    accepted = record {
+      whole = omega (arith, total, P .whole);
+      kinds = all-true (lines t) (λ i. known m (lineAt (t .words) i .kind)) (λ i l. line-known m w (P .none5) i (omega (arith, total)));
+      nodesThere = all-true (t .nodes) (nodeThere t) node-there;
+      rowsThere = all-true (t .rows) (rowThere t) row-there;
+      nodesTyped = all-true (t .nodes) (nodeTyped t) node-typed;
+      rowsTyped = all-true (t .rows) (rowTyped t) row-typed;
+      endsOpened = all-true (t .rows) (rowOpened t) end-open;
+      loopsClosed = ap noneOpen (none-open t loop-closed);
+      nodesSuit = all-true (t .nodes) (nodeSuitsMark m t) node-suits-mark;
+      rowsSuit = all-true (t .rows) (rowSuitsMark m t) row-suits-mark;
+    }
