@@ -99,7 +99,7 @@ module _ (t u : Table) (R : ReducesRows t u) where
   pub nest-same : (r : ℕ) → nestAt u r ≡ nestAt t r
   nest-same r = ap nestOf (R .kind r) ∙ same-nest _ _ (rowKind (rowAt t r .kind))
 
-  same-end : (r : ℕ) → matchingEnd u r ≡ matchingEnd t r
+  pub same-end : (r : ℕ) → matchingEnd u r ≡ matchingEnd t r
   unfolding matchingEnd
   same-end r =
       ap (λ (k : ℕ). walk (λ i rest. scanned (nestAt u i) i rest) (λ d. k) (suc r) (k - suc r) 0) (R .rows)

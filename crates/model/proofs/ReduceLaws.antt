@@ -8,7 +8,7 @@ use mathlib.Core.Bool.{Bool, true, false, false≢true, _&&_}
 use mathlib.Core.List.{List, [], _∷_}
 use lib.ListN.{length, getD, List·getD-eq-default}
 use lib.Dec.{eqb}
-use borrow.Author.Tests.{le-leb, lt-leb, eq-eqb, ne-eqb, eqb-true}
+use borrow.Author.Tests.{le-leb, lt-leb, eq-eqb, ne-eqb, eqb-true, ltb-true}
 use Rattle.lists.specs.If.{if_then_else_}
 use Rattle.lists.specs.Tab.{all}
 use Rattle.lists.proofs.TabLaws.{all-at, at-tab, length-tab, same-sum}
@@ -102,6 +102,13 @@ unfolding reducedKind
 stays u q k h =
     simp (ne-eqb k 16 (λ e. omega arith), ne-eqb k 19 (λ e. omega arith), ne-eqb k 26 (λ e. omega arith), ne-eqb k 34 (λ e. omega arith), ne-eqb k 37 (λ e. omega arith), ne-eqb k 38 (λ e. omega arith))
 
+-- so does a declaration's kind
+pub declaration-stays : (u q : Bool) (k : ℕ) → isDeclaration k ≡ true → reducedKind u q k ≡ k
+unfolding reducedKind
+declaration-stays u q k e =
+    let h : k < 16 = ltb-true k 16 e in
+    simp (ne-eqb k 16 (λ e. omega arith), ne-eqb k 19 (λ e. omega arith), ne-eqb k 26 (λ e. omega arith), ne-eqb k 34 (λ e. omega arith), ne-eqb k 37 (λ e. omega arith), ne-eqb k 38 (λ e. omega arith))
+
 pub no-node : (k : ℕ) → 43 ≤ k → nodeKind k ≡ noNode
 unfolding nodeKind
 no-node k h = List·getD-eq-default nodeKinds noNode {n = k} (omega arith)
@@ -159,10 +166,10 @@ type-numbers : (u q : Bool) (k : ℕ) → tyNumber (typeOf (reducedKind u q k)) 
 unfolding all typeOf reducedKind
 type-numbers = by-kinds (λ u q k. tyNumber (typeOf (reducedKind u q k))) (λ u q k. tyNumber (typeOf k)) refl (λ u q k h. rw (stays u q k h))
 
-new-node : (u q : Bool) (k : ℕ) → nodeKind (reducedKind u q k) ≡ reducedNode u (nodeKind k)
+pub new-node : (u q : Bool) (k : ℕ) → nodeKind (reducedKind u q k) ≡ reducedNode u (nodeKind k)
 new-node u q k = sym (node-back _) ∙ ap nodeKind (node-numbers u q k) ∙ node-back _
 
-new-row : (u q : Bool) (k : ℕ) → rowKind (reducedKind u q k) ≡ reducedRow u q (rowKind k)
+pub new-row : (u q : Bool) (k : ℕ) → rowKind (reducedKind u q k) ≡ reducedRow u q (rowKind k)
 new-row u q k = sym (row-back _) ∙ ap rowKind (row-numbers u q k) ∙ row-back _
 
 new-type : (u q : Bool) (k : ℕ) → typeOf (reducedKind u q k) ≡ typeOf k
@@ -242,6 +249,16 @@ module _ (w : List ℕ) where
 
     pub reduce-c : lineAt (reduce w) i .c ≡ lineAt w i .c
     reduce-c = reduced-at (4 * i + 3) ∙ rw (ne-eqb ((4 * i + 3) % 4) 0 (omega arith))
+
+    -- the sort of a line
+    pub same-declaration : isDeclaration (lineAt (reduce w) i .kind) ≡ isDeclaration (lineAt w i .kind)
+    same-declaration = ap isDeclaration reduce-kind ∙ bit-back _ _ (new-declaration _ _ _)
+
+    pub same-isNode : isNode (lineAt (reduce w) i .kind) ≡ isNode (lineAt w i .kind)
+    same-isNode = ap isNode reduce-kind ∙ bit-back _ _ (new-isNode _ _ _)
+
+    pub same-isRow : isRow (lineAt (reduce w) i .kind) ≡ isRow (lineAt w i .kind)
+    same-isRow = ap isRow reduce-kind ∙ bit-back _ _ (new-isRow _ _ _)
 
     pub same-markedUint : marked (reduce w) 2 i ≡ marked w 2 i
     unfolding marked

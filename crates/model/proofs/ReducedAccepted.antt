@@ -23,7 +23,7 @@ use Rattle.model.proofs.ReduceLaws.{known-reduced, length-reduce, reduc
 use Rattle.model.proofs.Typing.{plain-nodes, plain-rows}
 
 -- a new kind has the operands of the one it replaces
-same-roles : (u : Bool) (k : Node) → nodeRoles (reducedNode u k) ≡ nodeRoles k
+pub same-roles : (u : Bool) (k : Node) → nodeRoles (reducedNode u k) ≡ nodeRoles k
 unfolding nodeRoles
 same-roles true variable = refl
 same-roles false variable = refl
@@ -42,7 +42,7 @@ same-roles u reducedCell = refl
 same-roles u reducedValid = refl
 same-roles u noNode = refl
 
-same-rowRoles : (u q : Bool) (k : Row) → rowRoles (reducedRow u q k) ≡ rowRoles k
+pub same-rowRoles : (u q : Bool) (k : Row) → rowRoles (reducedRow u q k) ≡ rowRoles k
 unfolding rowRoles
 same-rowRoles u q skip = refl
 same-rowRoles u q assign = refl
@@ -154,7 +154,7 @@ module _ (t : Table) (A : Accepted plain t) where
   abbrev u : Table
   u = reducedTable t
 
-  R : ReducesRows t u
+  pub R : ReducesRows t u
   R = reduces t (plain-nodes t A) (plain-rows t A)
 
   vars-same : typeAt u ≡ typeAt t
@@ -169,21 +169,21 @@ module _ (t : Table) (A : Accepted plain t) where
   unfolding nodeType
   types-same = ap (λ (f : ℕ → (ℕ → Ty) → Ty). valueAt f bool) (fun-ext λ n. fun-ext λ ty. step-same n ty)
 
-  there-same : (n : ℕ) → nodeThere u n ≡ nodeThere t n
+  pub there-same : (n : ℕ) → nodeThere u n ≡ nodeThere t n
   unfolding nodeThere
   there-same n = rw (R .nodes .kind n, R .nodes .a n, R .nodes .b n, R .nodes .c n, same-roles (markedUint t (nodeAt t n .a)) (nodeKind (nodeAt t n .kind)))
 
-  rowThere-same : (r : ℕ) → rowThere u r ≡ rowThere t r
+  pub rowThere-same : (r : ℕ) → rowThere u r ≡ rowThere t r
   unfolding rowThere
   rowThere-same r = rw (R .kind r, R .a r, R .b r, R .c r, same-rowRoles (markedUint t (rowAt t r .a)) (markedPointer t (rowAt t r .a)) (rowKind (rowAt t r .kind)))
 
-  typed-same : (n : ℕ) → nodeTyped u n ≡ nodeTyped t n
+  pub typed-same : (n : ℕ) → nodeTyped u n ≡ nodeTyped t n
   unfolding nodeTyped
   typed-same n =
       ap (λ (f : ℕ → Ty). typedNode f (nodeKind (nodeAt u n .kind)) (nodeAt u n .a) (nodeAt u n .b) (nodeAt u n .c)) types-same
       ∙ rw (R .nodes .kind n, R .nodes .a n, R .nodes .b n, R .nodes .c n) (same-typed (markedUint t (nodeAt t n .a)) (nodeType t) (nodeKind (nodeAt t n .kind)) (nodeAt t n .a) (nodeAt t n .b) (nodeAt t n .c))
 
-  rowTyped-same : (r : ℕ) → rowTyped u r ≡ rowTyped t r
+  pub rowTyped-same : (r : ℕ) → rowTyped u r ≡ rowTyped t r
   unfolding rowTyped
   rowTyped-same r =
       ap (λ (f : ℕ → Ty). typedRow f (nodeType u) (rowKind (rowAt u r .kind)) (rowAt u r .a) (rowAt u r .b) (rowAt u r .c)) vars-same
@@ -191,7 +191,7 @@ module _ (t : Table) (A : Accepted plain t) where
       ∙ rw (R .kind r, R .a r, R .b r, R .c r)
       (same-rowTyped (markedUint t (rowAt t r .a)) (markedPointer t (rowAt t r .a)) (typeAt t) (nodeType t) (rowKind (rowAt t r .kind)) (rowAt t r .a) (rowAt t r .b) (rowAt t r .c))
 
-  open-same : (r : ℕ) → openAt u r ≡ openAt t r
+  pub open-same : (r : ℕ) → openAt u r ≡ openAt t r
   unfolding openAt
   open-same zero = refl
   open-same (suc r) = rw (nest-same t u R r, open-same r)
@@ -200,18 +200,18 @@ module _ (t : Table) (A : Accepted plain t) where
   unfolding rowOpened
   opened-same r = rw (nest-same t u R r, open-same r)
 
-  node-suit : (n : ℕ) → nodeSuitsMark reduced u n ≡ true
+  pub node-suit : (n : ℕ) → nodeSuitsMark reduced u n ≡ true
   unfolding nodeSuitsMark
   node-suit n =
       rw (R .nodes .kind n, R .nodes .a n, same-markedUint (t .words) (nodeAt t n .a)) (node-suits (markedUint t (nodeAt t n .a)) (nodeKind (nodeAt t n .kind)) (plain-nodes t A n))
 
-  row-suit : (r : ℕ) → rowSuitsMark reduced u r ≡ true
+  pub row-suit : (r : ℕ) → rowSuitsMark reduced u r ≡ true
   unfolding rowSuitsMark
   row-suit r =
       rw (R .kind r, R .a r, same-markedUint (t .words) (rowAt t r .a), same-markedPointer (t .words) (rowAt t r .a))
       (row-suits t (rowKind (rowAt t r .kind)) (rowAt t r .a) (markedUint t (rowAt t r .a)) (markedPointer t (rowAt t r .a)) refl (plain-rows t A r))
 
-  kind-known : (i : ℕ) → i < lines t → known reduced (lineAt (u .words) i .kind) ≡ true
+  pub kind-known : (i : ℕ) → i < lines t → known reduced (lineAt (u .words) i .kind) ≡ true
   kind-known i h = rw (reduce-kind (t .words) i) (known-reduced _ _ _ (all-at (lines t) (λ i. known plain (lineAt (t .words) i .kind)) (A .kinds) i h))
 
   pub accepted-reduced : Accepted reduced u

@@ -2,3 +2,4 @@
 pub mod Sizes
 pub mod Closed
 pub mod Passing
+pub mod ReducedPasses

@@ -94,7 +94,7 @@ module _ (m : MachineKind) (w : List ℕ) where
     total = all-lines m w (P .none5)
 
     -- line i does not break the rule of the number
-    unbroken : (k : ℕ) → Unbroken k m w → (i : ℕ) → i < lines t → breaks k m t i ≡ false
+    pub unbroken : (k : ℕ) → Unbroken k m w → (i : ℕ) → i < lines t → breaks k m t i ≡ false
     unbroken k h i l = first-nowhere-at (length w / 4) (breaks k m t) 0 h i (omega arith) (omega (arith, total))
 
     -- a rule of nodes, at a node; a rule of rows, at a row
