@@ -3,3 +3,4 @@ pub mod Sizes
 pub mod Closed
 pub mod Passing
 pub mod ReducedPasses
+pub mod PromiseProofs
