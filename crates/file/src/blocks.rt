@@ -3,9 +3,10 @@ use crate::layout::BLOCK;
 use crate::layout::CHECK;
 use crate::layout::LINE_WORDS;
 use crate::word::put_word;
+use lists::word_or_zero;
 ghost use mathlib.Core.Path.{_≡_};
 ghost use Prim.Native.Nat.{_+_, _*_, _<_, _≤_};
-ghost use lib.ListN.{length, getD, take};
+ghost use lib.ListN.{length, take};
 ghost use Rattle.lists.specs.Tab.{tab, padded};
 ghost use Rattle.file.specs.Layout.{used, plainWord, fileByte};
 
@@ -21,15 +22,6 @@ fn used_in(n: usize, k: usize) -> u32
         return (n - 31 * k) as u32;
     }
     31
-}
-
-fn word_or_zero(ws: &[u32], i: usize) -> u32
-    ensures { λ r. ⌜ r ≡ getD (now (ws .entry)) i 0 ⌝ }
-{
-    if i < ws.len() {
-        return ws[i];
-    }
-    0
 }
 
 // Word r of block k, the check left out.

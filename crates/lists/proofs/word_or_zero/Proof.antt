@@ -2,11 +2,11 @@
 use mathlib.Core.Path.{sym}
 use lib.ListN.{List·getD-eq-default}
 use borrow.Author.Needs.{needs}
-use Rattle.file.proofs.blocks.word_or_zero.Statement.{statement}
-use Rattle.file.proofs.blocks.word_or_zero.Tie as tie
+use Rattle.lists.proofs.word_or_zero.Statement.{statement}
+use Rattle.lists.proofs.word_or_zero.Tie as tie
 
 returns-2 : tie.Need-returns-2
-returns-2 c = sym (List·getD-eq-default (c .before .args .ws .now) 0 (c .if1 .left))
+returns-2 c = sym (List·getD-eq-default (c .before .args .words .now) 0 (c .if1 .left))
 
 pub word-or-zero-spec : {M : Type 1} → statement M
 word-or-zero-spec = tie.close (tie.spec (λ c. search needs) (λ c. search needs) (λ c. search needs) returns-2)

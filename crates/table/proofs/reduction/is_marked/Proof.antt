@@ -1,0 +1,12 @@
+-- The two words of a declaration that say it is marked.
+use borrow.Author.Needs.{needs}
+use Rattle.model.specs.Table.{marked}
+use Rattle.table.proofs.reduction.is_marked.Statement.{statement}
+use Rattle.table.proofs.reduction.is_marked.Tie as tie
+
+returns : tie.Need-returns
+unfolding marked
+returns c = cc
+
+pub is-marked-spec : {M : Type 1} → statement M
+is-marked-spec = tie.close (tie.spec (λ c. search needs) (λ c κs. search needs) (λ c. search needs) (λ c κs. search needs) returns)
