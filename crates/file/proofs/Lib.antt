@@ -4,3 +4,4 @@ pub mod LayoutLaws
 pub mod ReadingLaws
 pub mod ReadBack
 pub mod WriteAgain
+pub mod RoundTrips

@@ -2,4 +2,5 @@
 pub mod Word
 pub mod Layout
 pub mod Reading
+pub mod Writing
 pub mod Statements

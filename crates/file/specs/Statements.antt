@@ -1,4 +1,4 @@
--- What is proved of these definitions, of every table and every file: proofs/ReadBack, proofs/WriteAgain.
+-- What is proved of these definitions, of every table and every file: proofs/ReadBack, proofs/WriteAgain, proofs/RoundTrips.
 use Prim.Native.Nat.{ℕ, _*_, _%_, _^_, _<_, _≤_}
 use mathlib.Core.Path.{_≡_}
 use mathlib.Core.List.{List}
@@ -6,7 +6,12 @@ use lib.ListN.{length, getD, take}
 use Rattle.lists.specs.Tab.{padded}
 use Rattle.file.specs.declared.Read.the-variants.{Lines}
 use Rattle.file.specs.Layout.{lines, fileBytes}
+use Rattle.file.specs.declared.Written.the-variants.{Bytes}
 use Rattle.file.specs.Reading.{readAnswer, readBuffer}
+use Rattle.file.specs.Writing.{writeAnswer, writeBuffer}
+use Rattle.model.specs.State.MachineKind.{plain}
+use Rattle.table.specs.declared.Verdict.the-variants.{Passes}
+use Rattle.table.specs.Checks.{tableCheck}
 
 -- every number of the list is below m
 abbrev pub AllBelow : ℕ → List ℕ → Type 0
@@ -29,3 +34,16 @@ abbrev pub OneFile : Type 0
 OneFile =
     (bs cs : List ℕ) → AllBelow 256 bs → AllBelow 256 cs → (buffer : List ℕ) (n : ℕ) → readAnswer bs (length buffer) ≡ Lines n
     → readAnswer cs (length buffer) ≡ Lines n → readBuffer bs buffer ≡ readBuffer cs buffer → bs ≡ cs
+
+-- demand 2, of the two public functions: "A written file reads back as its table"
+abbrev pub WrittenReadsBack : Type 0
+WrittenReadsBack =
+    (w : List ℕ) → AllBelow (2 ^ 32) w → (out : List ℕ) (n : ℕ) → writeAnswer w (length out) ≡ Bytes n → (buffer : List ℕ) → length buffer ≡ 5248
+    → (readAnswer (take n (writeBuffer w out)) (length buffer) ≡ Lines (lines w)) × (readBuffer (take n (writeBuffer w out)) buffer ≡ padded 5248 w)
+
+-- "a read file whose table passes is written again byte for byte"
+abbrev pub ReadIsWrittenAgain : Type 0
+ReadIsWrittenAgain =
+    (bs : List ℕ) → AllBelow 256 bs → (buffer : List ℕ) (n : ℕ) → readAnswer bs (length buffer) ≡ Lines n
+    → tableCheck plain (take (4 * n) (readBuffer bs buffer)) ≡ Passes → (out : List ℕ) → length out ≡ 22016
+    → (writeAnswer (take (4 * n) (readBuffer bs buffer)) (length out) ≡ Bytes (length bs)) × (take (length bs) (writeBuffer (take (4 * n) (readBuffer bs buffer)) out) ≡ bs)

@@ -19,6 +19,12 @@ pub enum Read {
     Refused(u32, u32),
 }
 
+// What writing a file gives: the number of bytes, or a refusal's number and its place.
+pub enum Written {
+    Bytes(u32),
+    Refused(u32, usize),
+}
+
 // Reads a file into the words lent; a refusal leaves them as they were.
 pub fn read_file(bytes: &[u8], words: &mut [u32]) -> Read
     ensures answer { λ r. ⌜ r ≡ readAnswer (now (bytes .entry)) (length (now (words .entry))) ⌝ }
