@@ -16,4 +16,5 @@ pub mod Safe
 pub mod SafeStep
 pub mod ReducedAccepted
 pub mod Demand3Proof
+pub mod Kept
 pub mod ExampleProof

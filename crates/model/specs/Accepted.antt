@@ -14,7 +14,8 @@ use Rattle.model.specs.Table.Node.{variable, uintConstant, boolConstant,
 use Rattle.model.specs.Table.Row.{skip, assign, store, assert, assume, array, loop, loopEnd, reducedStore, reducedArray, classLoop, noRow}
 use Rattle.model.specs.Table.Role.{unused, flag, number, aVariable, aNode}
 use Rattle.model.specs.Table.Nest.{opens, closes, neither}
-use Rattle.model.specs.State.{MachineKind, Value, Array, Loop, State, classed}
+use Rattle.model.specs.Class.{class}
+use Rattle.model.specs.State.{MachineKind, most, mostArrays, Value, Array, Loop, State, classed}
 use Rattle.model.specs.State.MachineKind.{plain, reduced}
 use Rattle.model.specs.State.Value.{Truth, Uint, Class, Pointer}
 use Rattle.model.specs.Eval.{sizeOf, used}
@@ -219,3 +220,16 @@ pub record CanHave (ps : List ℕ) (m : MachineKind) (t : Table) (s : State) : T
   pub laid : Laid ps (s .arrays) (s .cells)
   -- not "a reduced array in a plain record"
   pub plainArrays : m ≡ plain → (i : ℕ) → i < length (s .arrays) → arrayAt (s .arrays) i .reduced ≡ false
+
+-- what 15 asks besides, of a state that the table can have
+abbrev pub Started : List Loop → Type 0
+Started [] = Unit {0}
+Started (l ∷ ls) = (l .start ≤ l .end) × Started ls
+
+pub record Regular (ps : List ℕ) (m : MachineKind) (t : Table) (s : State) : Type 0 where
+  -- not "a start above its end"
+  pub started : Started (s .loops)
+  -- not "a class above 4 or holding no number" (R26): a class that is held is that of some number
+  pub classes : (i : ℕ) → i < t .decls → classed m t i ≡ true → (n : ℕ) × (n ≤ most) × (getD (s .vars) i (Uint 0) ≡ Class (class ps n))
+  -- not "more than 16 arrays"
+  pub few : length (s .arrays) ≤ mostArrays

@@ -6,7 +6,7 @@ use mathlib.Core.List.{List, [], _∷_}
 use lib.ListN.{length}
 use Rattle.model.specs.Class.{pair, acceptedPair}
 use Rattle.model.specs.Table.{Table, tableOf}
-use Rattle.model.specs.State.{MachineKind, Array, State, fresh}
+use Rattle.model.specs.State.{MachineKind, most, Array, State, fresh}
 use Rattle.model.specs.State.MachineKind.{plain, reduced}
 use Rattle.model.specs.Step.{End, Report, run}
 use Rattle.model.specs.Step.End.{done, assertFalse, assumeFalse, failed, wantOfCells, outOfSteps, choiceNotAllowed, noChoiceLeft, listFull}
@@ -14,7 +14,7 @@ use Rattle.model.specs.Step.Report.{ended, noEnd}
 use Rattle.model.specs.Reduce.{reduce}
 use Rattle.model.specs.Agree.{arrayAt, plainCell, reducedCellOf, Agree}
 use Rattle.model.specs.Writer.{withNumbers, written, writer}
-use Rattle.model.specs.Accepted.{Accepted, CanHave}
+use Rattle.model.specs.Accepted.{Accepted, CanHave, Regular}
 
 -- the plain machine takes no choice
 abbrev pub TakesChoices : MachineKind → Type 0
@@ -133,3 +133,22 @@ ReductionAccepted = (P : List ℕ) → Accepted plain (tableOf P) → Accepted r
 
 abbrev pub Demand3Holds : Type 0
 Demand3Holds = (c1 c2 : ℕ) → acceptedPair c1 c2 ≡ true → (P : List ℕ) → Accepted plain (tableOf P) → Demand3 c1 c2 P
+
+-- a list of numbers of 32 bits
+abbrev pub Numbers : List ℕ → Type 0
+Numbers [] = Unit {0}
+Numbers (c ∷ cs) = (c ≤ most) × Numbers cs
+
+abbrev pub EndsRegular : List ℕ → MachineKind → Table → Report → Type 0
+EndsRegular ps m t (ended e n s left) = Regular ps m t s
+EndsRegular ps m t noEnd = Unit {0}
+
+-- a run from a state that 15 does not refuse ends in one that 15 does not refuse, so it may be continued
+abbrev pub StaysRegular : Type 0
+StaysRegular =
+    (ps : List ℕ) (m : MachineKind) (t : Table) → Accepted m t → (s : State) → CanHave ps m t s → Regular ps m t s
+    → (limit : ℕ) (choices : List ℕ) → Numbers choices → EndsRegular ps m t (run ps t limit 0 s choices)
+
+-- a fresh state is regular, where 0 is a number
+abbrev pub FreshRegular : Type 0
+FreshRegular = (ps : List ℕ) (m : MachineKind) (t : Table) → Regular ps m t (fresh ps m t)

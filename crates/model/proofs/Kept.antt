@@ -1,0 +1,379 @@
+-- A run keeps its state regular: loops start no later than they end, classes are held by numbers, arrays are at most 16.
+-- Assumes nothing.
+use mathlib.Core.Path.{_≡_, refl, sym, ap, _∙_, subst}
+use Prim.Native.Nat.{ℕ, zero, suc, _+_, _-_, _≤_, _<_}
+use native.Mathlib.Nat.{not-suc-le-zero}
+use native.Mathlib.Decide.{ℕ-discrete}
+use native.Mathlib.Omega.{arith}
+use mathlib.Core.Bool.{Bool, true, false, true≢false, false≢true}
+use mathlib.Core.List.{List, [], _∷_, _++_}
+use lib.ListN.{length, getD, set, length-set}
+use lib.Seq.{getD-set-same, getD-set-other}
+use lib.Dec.{ltb, leb, eqb}
+use borrow.Author.Tests.{ltb-true, leb-true, leb-false}
+use Rattle.lists.specs.If.{if_then_else_}
+use Rattle.lists.proofs.TabLaws.{at-tab}
+use Rattle.model.specs.Class.{class}
+use Rattle.model.specs.Table.{Node, Row, Table, Ty, matchingEnd, nodeAt, nodeKind, openAt, rowAt, rowKind, typeAt}
+use Rattle.model.specs.Table.Ty.{bool, uint, pointer}
+use Rattle.model.specs.Table.Node.{variable, uintConstant, boolConstant, cell, plus, minus, less, atMost, equal, conditional, valid, classVariable, reducedCell, reducedValid, noNode}
+use Rattle.model.specs.Table.Row.{skip, assign, store, assert, assume, array, loop, loopEnd, reducedStore, reducedArray, classLoop, noRow}
+use Rattle.model.specs.Work.{Out, Work, _>>=_, choose, fail, give, next, wrong}
+use Rattle.model.specs.Work.Out.{gives, fails, badChoice, noChoice, stuck}
+use Rattle.model.specs.State.{Array, Loop, MachineKind, State, Value, classed, fresh, most, mostArrays, sortOf, startOf}
+use Rattle.model.specs.State.MachineKind.{reduced}
+use Rattle.model.specs.State.Value.{Truth, Uint, Class, Pointer}
+use Rattle.model.specs.Eval.{Of, Ptr, Store, add, arrayOf, asClass, bools, cellOf, compare, eval, evalF, indexOf, isValid, keeps, load, ofType, present, reducedLoad, rule, sizeOf, storeOf, subtract, sumOrDifference, uints, used, value, variableOf}
+use Rattle.model.specs.Step.{End, Move, addArray, after, cleared, enter, laidNext, loopAt, newArray, node, past, pastEnd, put, reducedWrite, repeatLoop, rowRule, run, setVar, step, withLoops, withVar, write}
+use Rattle.model.specs.Step.End.{done, wantOfCells, outOfSteps}
+use Rattle.model.specs.Step.Move.{to, stop}
+use Rattle.model.specs.Step.Report.{ended}
+use Rattle.model.specs.Accepted.{Accepted, CanHave, Regular, Started, nodeType}
+use Rattle.model.specs.Demand3.{EndsRegular, FreshRegular, Numbers, StaysRegular}
+use Rattle.model.proofs.Match.{left}
+use Rattle.model.proofs.Memory.{snoc-length}
+use Rattle.model.proofs.Nested.{Chain, chain}
+use Rattle.model.proofs.Typing.{RowFits, rows-fit}
+use Rattle.model.proofs.Safe.{Held}
+use Rattle.model.proofs.SafeStep.{MoveOk, loopRows, safe-step}
+
+-- a value that is given has the property, and the choices left are numbers
+abbrev Given : {A : Type 0} → (A → Type 0) → Out A → Type 0
+Given P (gives a left) = P a × Numbers left
+Given P (fails left) = Unit {0}
+Given P badChoice = Unit {0}
+Given P noChoice = Unit {0}
+Given P stuck = Unit {0}
+
+record Keeps {A : Type 0} (P : A → Type 0) (w : Work A) : Type 0 where
+  kept : (cs : List ℕ) → Numbers cs → Given P (w cs)
+
+keeps-give : {A : Type 0} {P : A → Type 0} {a : A} → P a → Keeps P (give a)
+keeps-give h = record { kept = λ cs n. (h, n) }
+
+keeps-fail : {A : Type 0} {P : A → Type 0} → Keeps P (fail {A = A})
+keeps-fail = record { kept = λ cs n. tt }
+
+keeps-wrong : {A : Type 0} {P : A → Type 0} → Keeps P (wrong {A = A})
+keeps-wrong = record { kept = λ cs n. tt }
+
+keeps-if : {A : Type 0} {P : A → Type 0} (b : Bool) {v w : Work A} → (b ≡ true → Keeps P v) → (b ≡ false → Keeps P w) → Keeps P (if b then v else w)
+keeps-if true x y = x refl
+keeps-if false x y = y refl
+
+keeps-bind : {A B : Type 0} {P : A → Type 0} {Q : B → Type 0} {w : Work A} {k : A → Work B} → Keeps P w → ((a : A) → P a → Keeps Q (k a)) → Keeps Q (w >>= k)
+keeps-bind {A} {B} {P} {Q} {w} {k} x y = record { kept = λ cs n. go (w cs) (x .kept cs n) }
+  where
+    go : (o : Out A) → Given P o → Given Q (next o k)
+    go (gives a left) h = y a (h .0) .kept left (h .1)
+    go (fails left) h = tt
+    go badChoice h = tt
+    go noChoice h = tt
+    go stuck h = tt
+
+keeps-choose : (ok : ℕ → Bool) → Keeps (λ v. v ≤ most) (choose ok)
+keeps-choose ok = record { kept = go }
+  where
+    pick : (b : Bool) (c : ℕ) (cs : List ℕ) → c ≤ most → Numbers cs → Given (λ v. v ≤ most) (if b then gives c cs else badChoice)
+    pick true c cs h n = (h, n)
+    pick false c cs h n = tt
+
+    go : (cs : List ℕ) → Numbers cs → Given (λ v. v ≤ most) (choose ok cs)
+    go [] n = tt
+    go (c ∷ cs) n = pick (ok c) c cs (n .0) (n .1)
+
+abbrev Any : {A : Type 0} → A → Type 0
+Any a = Unit {0}
+
+-- ---- operands: nothing is asked of the value
+
+any-bind : {A B : Type 0} {P : A → Type 0} {w : Work A} {k : A → Work B} → Keeps P w → ((a : A) → Keeps Any (k a)) → Keeps Any (w >>= k)
+any-bind x y = keeps-bind x (λ a _. y a)
+
+keeps-any : {A : Type 0} {P : A → Type 0} {w : Work A} → Keeps P w → Keeps Any w
+keeps-any {A} {P} {w} x = record { kept = λ cs n. go (w cs) (x .kept cs n) }
+  where
+    go : (o : Out A) → Given P o → Given Any o
+    go (gives a left) h = (tt, h .1)
+    go (fails left) h = tt
+    go badChoice h = tt
+    go noChoice h = tt
+    go stuck h = tt
+
+any-choose : (ok : ℕ → Bool) → Keeps Any (choose ok)
+any-choose ok = keeps-any (keeps-choose ok)
+
+any-variable : (vs : List Value) (a : ℕ) → Keeps Any (variableOf vs a)
+any-variable vs a = keeps-if (ltb a (length vs)) (λ _. keeps-give tt) (λ _. keeps-wrong)
+
+any-ofType : (w : Ty) (v : Value) → Keeps Any (ofType w v)
+any-ofType bool (Truth b) = keeps-give tt
+any-ofType bool (Uint n) = keeps-wrong
+any-ofType bool (Class k) = keeps-wrong
+any-ofType bool (Pointer r p) = keeps-wrong
+any-ofType uint (Truth b) = keeps-wrong
+any-ofType uint (Uint n) = keeps-give tt
+any-ofType uint (Class k) = keeps-wrong
+any-ofType uint (Pointer r p) = keeps-wrong
+any-ofType pointer (Truth b) = keeps-wrong
+any-ofType pointer (Uint n) = keeps-wrong
+any-ofType pointer (Class k) = keeps-wrong
+any-ofType pointer (Pointer r p) = keeps-give tt
+
+any-asClass : (v : Value) → Keeps Any (asClass v)
+any-asClass (Truth b) = keeps-wrong
+any-asClass (Uint n) = keeps-wrong
+any-asClass (Class k) = keeps-give tt
+any-asClass (Pointer r p) = keeps-wrong
+
+any-uints : (w : Ty) {x : Work ℕ} → Keeps Any x → Keeps Any (uints w x)
+any-uints bool x = keeps-wrong
+any-uints uint x = x
+any-uints pointer x = keeps-wrong
+
+any-bools : (w : Ty) {x : Work Bool} → Keeps Any x → Keeps Any (bools w x)
+any-bools bool x = x
+any-bools uint x = keeps-wrong
+any-bools pointer x = keeps-wrong
+
+any-add : (x y : ℕ) → Keeps Any (add x y)
+any-add x y = keeps-if (leb (x + y) most) (λ _. keeps-give tt) (λ _. keeps-fail)
+
+any-subtract : (x y : ℕ) → Keeps Any (subtract x y)
+any-subtract x y = keeps-if (leb y x) (λ _. keeps-give tt) (λ _. keeps-fail)
+
+any-sum : (op : ℕ → ℕ → Work ℕ) → ((x y : ℕ) → Keeps Any (op x y)) → (w : Ty) {x : Work (Of w)} {y : Work ℕ} → Keeps Any x → Keeps Any y → Keeps Any (sumOrDifference op w x y)
+any-sum op h bool x y = keeps-wrong
+any-sum op h uint x y = any-bind x (λ a. any-bind y (λ b. h a b))
+any-sum op h pointer x y = any-bind x (λ p. any-bind y (λ b. any-bind (h (p .place) b) (λ z. keeps-give tt)))
+
+any-compare : (test : ℕ → ℕ → Bool) {x y : Work ℕ} → Keeps Any x → Keeps Any y → Keeps Any (compare test x y)
+any-compare test x y = any-bind x (λ a. any-bind y (λ b. keeps-give tt))
+
+any-array : (rs : List Array) (i : ℕ) → Keeps Any (arrayOf rs i)
+any-array rs zero = keeps-fail
+any-array rs (suc i) = keeps-if (ltb i (length rs)) (λ _. keeps-give tt) (λ _. keeps-wrong)
+
+any-cell : (ps cells : List ℕ) (r : Array) (i : ℕ) → Keeps Any (cellOf ps cells r i)
+any-cell ps cells r i = keeps-if (ltb i (sizeOf ps r)) (λ _. keeps-if (ltb (r .start + i) (length cells)) (λ _. keeps-give tt) (λ _. keeps-wrong)) (λ _. keeps-wrong)
+
+any-load : (ps : List ℕ) (rs : List Array) (cells : List ℕ) (p : Ptr) → Keeps Any (load ps rs cells p)
+any-load ps rs cells p = any-bind (any-array rs (p .array)) (λ r. keeps-if (ltb (p .place) (r .len)) (λ _. any-cell ps cells r (p .place)) (λ _. keeps-fail))
+
+any-reducedLoad : (ps : List ℕ) (rs : List Array) (cells : List ℕ) (p : Ptr) → Keeps Any (reducedLoad ps rs cells p)
+any-reducedLoad ps rs cells p =
+    any-bind (any-array rs (p .array))
+    (λ r. keeps-if (ltb (p .place) (r .len)) (λ _. keeps-if (keeps ps r (p .place)) (λ _. any-cell ps cells r _) (λ _. any-choose _)) (λ _. keeps-fail))
+
+any-valid : (rs : List Array) (i q : ℕ) → Keeps Any (isValid rs i q)
+any-valid rs zero q = keeps-give tt
+any-valid rs (suc i) q = any-bind (any-array rs (suc i)) (λ r. keeps-give tt)
+
+any-present : (n : ℕ) (w : Ty) (x : Of w) → Keeps Any (present n w x)
+any-present n bool x = keeps-give tt
+any-present n uint x = keeps-give tt
+any-present n pointer x = keeps-if (leb (x .array) n) (λ _. keeps-give tt) (λ _. keeps-wrong)
+
+module _ (ps : List ℕ) (s : Store) where
+  any-rule : (w : Ty) (k : Node) (a b c : ℕ) {ev : (v : Ty) → ℕ → Work (Of v)} → ((v : Ty) (m : ℕ) → Keeps Any (ev v m)) → Keeps Any (rule ps s w k a b c ev)
+  unfolding rule
+  any-rule w variable a b c ih = any-bind (any-variable (s .vars) a) (any-ofType w)
+  any-rule w uintConstant a b c ih = any-uints w (keeps-give tt)
+  any-rule w boolConstant a b c ih = any-bools w (keeps-give tt)
+  any-rule w cell a b c ih = any-uints w (any-bind (ih pointer a) (any-load ps (s .arrays) (s .cells)))
+  any-rule w plus a b c ih = any-sum add any-add w (ih w a) (ih uint b)
+  any-rule w minus a b c ih = any-sum subtract any-subtract w (ih w a) (ih uint b)
+  any-rule w less a b c ih = any-bools w (any-compare ltb (ih uint a) (ih uint b))
+  any-rule w atMost a b c ih = any-bools w (any-compare leb (ih uint a) (ih uint b))
+  any-rule w equal a b c ih = any-bools w (any-compare eqb (ih uint a) (ih uint b))
+  any-rule w conditional a b c ih = any-bind (ih bool a) (λ x. keeps-if x (λ _. ih w b) (λ _. ih w c))
+  any-rule w valid a b c ih = any-bools w (any-bind (ih pointer a) (λ p. any-valid (s .arrays) (p .array) (p .place)))
+  any-rule w classVariable a b c ih = any-uints w (any-bind (any-bind (any-variable (s .vars) a) any-asClass) (λ k. any-choose _))
+  any-rule w reducedCell a b c ih = any-uints w (any-bind (ih pointer a) (any-reducedLoad ps (s .arrays) (s .cells)))
+  any-rule w reducedValid a b c ih = any-bools w (any-bind (ih pointer a) (λ p. any-valid (s .arrays) (p .array) (p .place)))
+  any-rule w noNode a b c ih = keeps-wrong
+
+  any-evalF : (t : Table) (f : ℕ) (w : Ty) (n : ℕ) → Keeps Any (evalF ps s t f w n)
+  unfolding evalF
+  any-evalF t zero w n = keeps-wrong
+  any-evalF t (suc f) w n =
+      any-bind (any-rule w (nodeKind (nodeAt t n .kind)) (nodeAt t n .a) (nodeAt t n .b) (nodeAt t n .c) (λ v m. keeps-if (ltb m n) (λ _. any-evalF t f v m) (λ _. keeps-wrong)))
+      (any-present (length (s .arrays)) w)
+
+any-node : (ps : List ℕ) (t : Table) (s : State) (w : Ty) (n : ℕ) → Keeps Any (node ps t s w n)
+unfolding eval
+any-node ps t s w n = keeps-if (ltb n (t .nodes)) (λ _. any-evalF ps (storeOf s) t (suc n) w n) (λ _. keeps-wrong)
+
+-- ---- rows
+
+module _ (ps : List ℕ) (m : MachineKind) (t : Table) where
+  abbrev MoveRegular : Move → Type 0
+  MoveRegular (to s) = Regular ps m t s
+  MoveRegular (stop e) = Unit {0}
+
+  -- a value that variable a may be set to
+  abbrev Settable : ℕ → Value → Type 0
+  Settable a v = classed m t a ≡ true → (n : ℕ) × (n ≤ most) × (v ≡ Class (class ps n))
+
+  unclassed-settable : (a : ℕ) (v : Value) → classed m t a ≡ false → Settable a v
+  unclassed-settable a v e h = absurd (true≢false (sym h ∙ e))
+
+  -- the state with a variable set, in a record of other rows and loops
+  regular-set : (s : State) → Regular ps m t s → (a : ℕ) (v : Value) → a < length (s .vars) → Settable a v → Regular ps m t (withVar s a v)
+  regular-set s R a v l h = record {
+    started = R .started;
+    classes = λ i k e. elim (ℕ-discrete i a) [
+      | yes q ↦ let g = h (subst (λ (j : ℕ). classed m t j ≡ true) q e) in (g .0, g .1, ap (λ (j : ℕ). getD (set (s .vars) a v) j (Uint 0)) q ∙ getD-set-same (s .vars) a v (Uint 0) l ∙ g .2)
+      | no q ↦ let g = R .classes i k e in (g .0, g .1, getD-set-other (s .vars) a i v (Uint 0) q ∙ g .2)
+    ];
+    few = R .few;
+  }
+
+  keeps-set : (s : State) → Regular ps m t s → (a : ℕ) (v : Value) → Settable a v → Keeps (λ s′. Regular ps m t s′) (setVar s a v)
+  keeps-set s R a v h = record { kept = λ cs n. go cs n (ltb a (length (s .vars))) refl }
+    where
+      go : (cs : List ℕ) → Numbers cs → (b : Bool) → ltb a (length (s .vars)) ≡ b → Given (λ s′. Regular ps m t s′) (setVar s a v cs)
+      go cs n true e = rw e (keeps-if {P = λ s′. Regular ps m t s′} (eqb (sortOf v) (sortOf (getD (s .vars) a (Uint 0)))) (λ _. keeps-give (regular-set s R a v (ltb-true a _ e) h)) (λ _. keeps-wrong) .kept cs n)
+      go cs n false e = rw e tt
+
+  -- other row, cells and arrays
+  regular-at : (s : State) → Regular ps m t s → (r : ℕ) (rs : List Array) (cs : List ℕ) → length rs ≤ mostArrays
+      → Regular ps m t (record { row = r; loops = s .loops; vars = s .vars; arrays = rs; cells = cs })
+  regular-at s R r rs cs h = record { started = R .started; classes = R .classes; few = h }
+
+  regular-loops : (s : State) → Regular ps m t s → (r : ℕ) (ls : List Loop) → Started ls
+      → Regular ps m t (record { row = r; loops = ls; vars = s .vars; arrays = s .arrays; cells = s .cells })
+  regular-loops s R r ls h = record { started = h; classes = R .classes; few = R .few }
+
+  keeps-put : (s : State) → Regular ps m t s → (r : Array) (i x : ℕ) → Keeps MoveRegular (put ps s r i x)
+  keeps-put s R r i x =
+      keeps-if (ltb i (sizeOf ps r)) (λ _. keeps-if (ltb (r .start + i) (length (s .cells))) (λ _. keeps-give (regular-at s R _ (s .arrays) _ (R .few))) (λ _. keeps-wrong)) (λ _. keeps-wrong)
+
+  keeps-write : (s : State) → Regular ps m t s → (p : Ptr) (x : ℕ) → Keeps MoveRegular (write ps s p x)
+  keeps-write s R p x = keeps-bind (any-array (s .arrays) (p .array)) (λ r _. keeps-if (ltb (p .place) (r .len)) (λ _. keeps-put s R r (p .place) x) (λ _. keeps-fail))
+
+  keeps-reducedWrite : (s : State) → Regular ps m t s → (p : Ptr) (x : ℕ) → Keeps MoveRegular (reducedWrite ps s p x)
+  keeps-reducedWrite s R p x =
+      keeps-bind (any-array (s .arrays) (p .array))
+      (λ r _. keeps-bind (place (r .reduced))
+      (λ v _. keeps-if (ltb v (r .len)) (λ _. keeps-if (keeps ps r v) (λ _. keeps-put s R r (indexOf ps r v) x) (λ _. keeps-give (regular-at s R _ (s .arrays) _ (R .few)))) (λ _. keeps-fail)))
+    where
+      place : (b : Bool) → Keeps Any (if b then choose (λ v. eqb (class ps v) (class ps (p .place))) else give (p .place))
+      place true = any-choose _
+      place false = keeps-give tt
+
+  regular-added : (s : State) → Regular ps m t s → (n : ℕ) (f : Bool) → MoveRegular (addArray ps s n f)
+  regular-added s R n f = go (leb mostArrays (length (s .arrays))) refl (leb (used ps (s .arrays) + sizeOf ps (laidNext ps s n f)) (length (s .cells)))
+    where
+      go : (b : Bool) → leb mostArrays (length (s .arrays)) ≡ b → (d : Bool)
+          → MoveRegular (if b then stop wantOfCells else (if d then to (record {
+            row = suc (s .row);
+            loops = s .loops;
+            vars = s .vars;
+            arrays = s .arrays ++ laidNext ps s n f ∷ [];
+            cells = cleared (used ps (s .arrays)) (sizeOf ps (laidNext ps s n f)) (s .cells);
+          }) else stop wantOfCells))
+      go true e d = tt
+      go false e true = regular-at s R _ _ _ (omega (arith, leb-false mostArrays (length (s .arrays)) e, snoc-length (s .arrays) (laidNext ps s n f)))
+      go false e false = tt
+
+  keeps-enter : (s : State) → Regular ps m t s → (n : ℕ) (v : Value) → Settable (rowAt t n .a) v → (x y : ℕ) {out : Work ℕ} → Keeps Any out → Keeps MoveRegular (enter t s n v x y out)
+  keeps-enter s R n v h x y {out} o =
+      keeps-bind (keeps-set s R (rowAt t n .a) v h)
+      (λ s′ R′. keeps-if (leb x y) (λ e. keeps-give (regular-loops s′ R′ _ _ (leb-true x y e, R′ .started))) (λ _. keeps-bind o (λ q _. keeps-give (regular-loops s′ R′ _ _ (R′ .started)))))
+
+  keeps-loop : (s : State) → Regular ps m t s → (n : ℕ) (k : Row) → RowFits m t (nodeType t) k (rowAt t n .a) (rowAt t n .b) (rowAt t n .c)
+      → (x y : ℕ) {out : Work ℕ} → Keeps Any out → Keeps MoveRegular (loopAt ps t s n k x y out)
+  keeps-loop s R n skip f x y o = keeps-wrong
+  keeps-loop s R n assign f x y o = keeps-wrong
+  keeps-loop s R n store f x y o = keeps-wrong
+  keeps-loop s R n assert f x y o = keeps-wrong
+  keeps-loop s R n assume f x y o = keeps-wrong
+  keeps-loop s R n array f x y o = keeps-wrong
+  keeps-loop s R n loop f x y o = keeps-enter s R n (Uint x) (unclassed-settable _ _ (f .6)) x y o
+  keeps-loop s R n loopEnd f x y o = keeps-wrong
+  keeps-loop s R n reducedStore f x y o = keeps-wrong
+  keeps-loop s R n reducedArray f x y o = keeps-wrong
+  keeps-loop s R n classLoop f x y o =
+      keeps-bind (keeps-choose _) (λ v h. keeps-bind (keeps-choose _) (λ w _. keeps-enter s R n (Class (class ps v)) (λ e. (v, h, refl)) v w o))
+  keeps-loop s R n noRow f x y o = keeps-wrong
+
+  any-out : (r : ℕ) → Keeps Any (pastEnd t r)
+  any-out r = keeps-if (ltb (matchingEnd t r) (t .rows)) (λ _. keeps-give tt) (λ _. keeps-wrong)
+
+  module _ (A : Accepted m t) (s : State) (C : CanHave ps m t s) (R : Regular ps m t s) (h : s .row < t .rows) where
+    keeps-repeat : (ls : List Loop) → loopRows ls ≡ openAt t (s .row) → Started ls → Keeps MoveRegular (repeatLoop ps t s ls)
+    keeps-repeat [] e g = keeps-wrong
+    keeps-repeat (l ∷ ls) e g =
+        let c : Chain t (l .row ∷ loopRows ls) = subst (Chain t) (sym e) (chain t (s .row) (omega arith)) in
+        keeps-bind (any-add (l .start) 1)
+        (λ x _. keeps-loop (withLoops s ls) (regular-loops s R _ ls (g .1)) (l .row) (rowKind (rowAt t (l .row) .kind)) (rows-fit m t A (l .row) (c .0)) x (l .end) (keeps-give tt))
+
+    on : Regular ps m t (past s)
+    on = regular-at s R _ (s .arrays) _ (R .few)
+
+    tested : (x : Bool) (e : End) → MoveRegular (if x then to (past s) else stop e)
+    tested true e = on
+    tested false e = tt
+
+    keeps-new : (a n : ℕ) (f : Bool) → classed m t a ≡ false → Keeps MoveRegular (newArray ps s a n f)
+    keeps-new a n f e = keeps-bind (keeps-set s R a (Pointer (suc (length (s .arrays))) 0) (unclassed-settable a (Pointer (suc (length (s .arrays))) 0) e)) (λ s′ R′. keeps-give (regular-added s′ R′ n f))
+
+    keeps-assign : (a : ℕ) (v : Value) → classed m t a ≡ false → Keeps MoveRegular (setVar s a v >>= λ s′. give (to (past s′)))
+    keeps-assign a v e = keeps-bind (keeps-set s R a v (unclassed-settable a v e)) (λ s′ R′. keeps-give (regular-at s′ R′ (suc (s′ .row)) (s′ .arrays) (s′ .cells) (R′ .few)))
+
+    keeps-row : (k : Row) → RowFits m t (nodeType t) k (rowAt t (s .row) .a) (rowAt t (s .row) .b) (rowAt t (s .row) .c)
+        → Keeps MoveRegular (rowRule ps t s (s .row) k (rowAt t (s .row) .a) (rowAt t (s .row) .b) (rowAt t (s .row) .c))
+    unfolding rowRule
+    keeps-row skip f = keeps-give on
+    keeps-row assign f = keeps-bind (any-node ps t s (typeAt t (rowAt t (s .row) .a)) (rowAt t (s .row) .b)) (λ x _. keeps-assign (rowAt t (s .row) .a) (value (typeAt t (rowAt t (s .row) .a)) x) (f .3))
+    keeps-row store f = keeps-bind (any-node ps t s pointer _) (λ p _. keeps-bind (any-node ps t s uint _) (λ x _. keeps-write s R p x))
+    keeps-row assert f = keeps-bind (any-node ps t s bool _) (λ x _. keeps-give (tested x _))
+    keeps-row assume f = keeps-bind (any-node ps t s bool _) (λ x _. keeps-give (tested x _))
+    keeps-row array f = keeps-bind (any-node ps t s uint _) (λ l _. keeps-new _ l false (f .4))
+    keeps-row loop f = keeps-bind (any-node ps t s uint _) (λ x _. keeps-bind (any-node ps t s uint _) (λ y _. keeps-loop s R (s .row) loop f x y (any-out (s .row))))
+    keeps-row loopEnd f = keeps-repeat (s .loops) (C .loops) (R .started)
+    keeps-row reducedStore f = keeps-bind (any-node ps t s pointer _) (λ p _. keeps-bind (any-node ps t s uint _) (λ x _. keeps-reducedWrite s R p x))
+    keeps-row reducedArray f = keeps-bind (any-node ps t s uint _) (λ l _. keeps-new _ l true (f .4))
+    keeps-row classLoop f = keeps-bind (any-node ps t s uint _) (λ x _. keeps-bind (any-node ps t s uint _) (λ y _. keeps-loop s R (s .row) classLoop f x y (any-out (s .row))))
+    keeps-row noRow f = keeps-wrong
+
+    keeps-step : Keeps MoveRegular (step ps t s)
+    unfolding step
+    keeps-step = keeps-row (rowKind (rowAt t (s .row) .kind)) (rows-fit m t A (s .row) h)
+
+  run-regular : Accepted m t → (k n : ℕ) (s : State) → CanHave ps m t s → Regular ps m t s → (cs : List ℕ) → Numbers cs → EndsRegular ps m t (run ps t k n s cs)
+  unfolding run
+  run-regular A zero n s C R cs g = go (ltb (s .row) (t .rows))
+    where
+      go : (b : Bool) → EndsRegular ps m t (if b then ended outOfSteps n s cs else ended done n s cs)
+      go true = R
+      go false = R
+  run-regular A (suc k) n s C R cs g = go (ltb (s .row) (t .rows)) refl (λ s′ C′ R′ cs′ g′. run-regular A k (suc n) s′ C′ R′ cs′ g′)
+    where
+      follow : (o : Out Move) → Held m (MoveOk m (CanHave ps m t)) cs o → Given MoveRegular o
+          → ((s′ : State) → CanHave ps m t s′ → Regular ps m t s′ → (cs′ : List ℕ) → Numbers cs′ → EndsRegular ps m t (run ps t k (suc n) s′ cs′))
+          → EndsRegular ps m t (after n s cs o (run ps t k (suc n)))
+      follow (gives (to s′) cs′) u v ih = ih s′ (u .0) (v .0) cs′ (v .1)
+      follow (gives (stop e) cs′) u v ih = R
+      follow (fails cs′) u v ih = R
+      follow badChoice u v ih = R
+      follow noChoice u v ih = R
+      follow stuck u v ih = tt
+
+      go : (b : Bool) → ltb (s .row) (t .rows) ≡ b
+          → ((s′ : State) → CanHave ps m t s′ → Regular ps m t s′ → (cs′ : List ℕ) → Numbers cs′ → EndsRegular ps m t (run ps t k (suc n) s′ cs′))
+          → EndsRegular ps m t (if b then after n s cs (step ps t s cs) (run ps t k (suc n)) else ended done n s cs)
+      go true e ih = follow (step ps t s cs) (safe-step ps m t A s C (ltb-true _ _ e) .held cs) (keeps-step A s C R (ltb-true _ _ e) .kept cs g) ih
+      go false e ih = R
+
+pub stays-regular : StaysRegular
+stays-regular ps m t A s C R limit choices g = run-regular ps m t A limit 0 s C R choices g
+
+pub fresh-regular : FreshRegular
+unfolding fresh
+fresh-regular ps m t = record {
+  started = tt;
+  classes = λ i h e. (0, omega arith, at-tab (t .decls) (startOf ps m t) (Uint 0) i h ∙ rw e);
+  few = omega arith;
+}
