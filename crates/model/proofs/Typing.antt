@@ -74,7 +74,7 @@ is-moving bool e = false≢true e
 is-moving uint e = tt
 is-moving pointer e = tt
 
-not-true : (b : Bool) → not b ≡ true → b ≡ false
+pub not-true : (b : Bool) → not b ≡ true → b ≡ false
 not-true true e = absurd (false≢true e)
 not-true false e = refl
 

@@ -1,0 +1,2 @@
+-- The theory of the machines.
+pub mod RecordLaws

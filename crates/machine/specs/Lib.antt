@@ -1,0 +1,2 @@
+-- The machines: check 15.
+pub mod Record
