@@ -1,0 +1,2 @@
+-- What a reader of the choice list gives.
+pub mod Choose
