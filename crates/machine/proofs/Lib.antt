@@ -2,4 +2,5 @@
 pub mod ViewLaws
 pub mod AnswerLaws
 pub mod NodeLaws
+pub mod FreshLaws
 pub mod RecordLaws

@@ -4,6 +4,7 @@ mod arrays;
 mod choices;
 mod evaluators;
 mod frame;
+mod fresh;
 mod nodes;
 mod variables;
 
