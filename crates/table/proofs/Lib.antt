@@ -1,6 +1,13 @@
--- The theory of the table checks, which the crates above cite.
+-- The theory of the table checks, which the crates above cite, and the laws by which their code is proved.
 pub mod Sizes
 pub mod Closed
 pub mod Passing
 pub mod ReducedPasses
 pub mod PromiseProofs
+pub mod ReductionLaws
+pub mod KindLaws
+pub mod CodeLaws
+pub mod TypeLaws
+pub mod DepthLaws
+pub mod LoopLaws
+pub mod CheckLaws

@@ -1,18 +1,11 @@
 // The reduction of a table, word by word into a lent table.
+use crate::marks::is_marked;
 use lists::word_or_zero;
 ghost use mathlib.Core.Path.{_≡_};
 ghost use Prim.Native.Nat.{_<_};
 ghost use lib.ListN.{length};
 ghost use Rattle.model.specs.Table.{marked};
 ghost use Rattle.model.specs.Reduce.{reducedKind, reducedWord, reduce};
-
-// Variable i is declared with this kind and is marked.
-fn is_marked(words: &[u32], kind: u32, i: u32) -> bool
-    ensures { λ r. ⌜ r ≡ marked (now (words .entry)) kind i ⌝ }
-{
-    let at = 4 * (i as usize);
-    (word_or_zero(words, at) == kind) & (word_or_zero(words, at + 1) == 1)
-}
 
 // The kind that a line of this kind becomes, whose operand a is i.
 fn reduced_kind(words: &[u32], kind: u32, i: u32) -> u32

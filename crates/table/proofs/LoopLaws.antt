@@ -1,0 +1,116 @@
+-- The nesting of loops, with the open ones counted: the scan for an end, the count, and check 11.
+-- Assumes nothing.
+use Prim.Native.Nat.{ℕ, zero, suc, _+_, _-_, _/_, _<_, _≤_}
+use native.Mathlib.Omega.{arith}
+use native.Mathlib.Nat.{sub-zero}
+use native.Mathlib.Numerals.{add-one}
+use mathlib.Core.Path.{_≡_, refl, sym, ap, _∙_}
+use mathlib.Core.Bool.{Bool, true, false, _&&_, false≢true, true≢false}
+use mathlib.Core.List.{List, [], _∷_}
+use lib.ListN.{length}
+use lib.Dec.{eqb, leb}
+use borrow.Author.Tests.{ne-eqb}
+use Rattle.lists.specs.declared.Found.the-variants.{At, Nothing}
+use Rattle.lists.specs.First.{walk, first}
+use Rattle.lists.proofs.FirstLaws.{walk-more, walk-done, first-hit, first-miss, first-none}
+use Rattle.model.specs.Table.{Table, rowAt, Nest, nestAt, nested, scanned, matchingEnd, openAt}
+use Rattle.model.specs.Table.Nest.{opens, closes, neither}
+use Rattle.model.specs.Accepted.{noneOpen}
+use Rattle.table.specs.Rules.{nestBreaks, breaks11}
+use Rattle.table.specs.Code.{nestNumber, nest, openAfter, scanFrom, rowBreaks11, unnested, firstRow, Laid}
+use Rattle.table.proofs.CodeLaws.{at-row, before-rows}
+
+open-nested : (n : Nest) (r : ℕ) (os : List ℕ) → length (nested n r os) ≡ openAfter (nestNumber n) (length os)
+open-nested opens r os = omega arith
+open-nested closes r [] = refl
+open-nested closes r (o ∷ os) = omega arith
+open-nested neither r os = refl
+
+pub open-more : (t : Table) (i : ℕ) → length (openAt t (i + 1)) ≡ openAfter (nest (rowAt t i .kind)) (length (openAt t i))
+unfolding openAt nest
+open-more t i = rw (add-one i) (open-nested (nestAt t i) i (openAt t i))
+
+some : (d : ℕ) → eqb (suc d) 0 ≡ false
+some d = ne-eqb (suc d) 0 (λ e. omega arith)
+
+scanned-ends : (n : Nest) (i : ℕ) (rest : ℕ → ℕ) (d : ℕ) → (eqb (nestNumber n) 2 && eqb d 0) ≡ true → scanned n i rest d ≡ i
+scanned-ends opens i rest d h = absurd (false≢true h)
+scanned-ends closes i rest zero h = refl
+scanned-ends closes i rest (suc d) h = absurd (false≢true (sym (some d) ∙ h))
+scanned-ends neither i rest d h = absurd (false≢true h)
+
+scanned-on : (n : Nest) (i : ℕ) (rest : ℕ → ℕ) (d : ℕ) → (eqb (nestNumber n) 2 && eqb d 0) ≡ false → scanned n i rest d ≡ rest (openAfter (nestNumber n) d)
+scanned-on opens i rest d h = rw (add-one d)
+scanned-on closes i rest zero h = absurd (true≢false h)
+scanned-on closes i rest (suc d) h = ap rest (omega arith)
+scanned-on neither i rest d h = refl
+
+-- ---- the loop that scans: the end is what the rest of the scan finds
+
+module _ (t : Table) where
+  pub scan-start : (r : ℕ) → matchingEnd t r ≡ scanFrom t (r + 1) 0
+  unfolding matchingEnd
+  scan-start r = rw (add-one r)
+
+  pub scan-done : (i d : ℕ) → t .rows ≤ i → scanFrom t i d ≡ t .rows
+  scan-done i d l = ap (λ (f : ℕ → ℕ). f d) (walk-done (λ i rest. scanned (nestAt t i) i rest) (λ d. t .rows) i (t .rows) l)
+
+  module _ (i d q : ℕ) (l : i < t .rows) (e : q ≡ nest (rowAt t i .kind)) where
+    more : scanFrom t i d ≡ scanned (nestAt t i) i (walk (λ i rest. scanned (nestAt t i) i rest) (λ d. t .rows) (i + 1) (t .rows - (i + 1))) d
+    more = ap (λ (f : ℕ → ℕ). f d) (walk-more (λ i rest. scanned (nestAt t i) i rest) (λ d. t .rows) i (t .rows) l)
+
+    pub scan-hit : (eqb q 2 && eqb d 0) ≡ true → scanFrom t i d ≡ i
+    unfolding nest
+    scan-hit h = more ∙ scanned-ends (nestAt t i) i _ d (rw e at h)
+
+    pub scan-next : (eqb q 2 && eqb d 0) ≡ false → scanFrom t i d ≡ scanFrom t (i + 1) (openAfter q d)
+    unfolding nest
+    scan-next h = more ∙ scanned-on (nestAt t i) i _ d (rw e at h) ∙ rw e
+
+-- ---- 11
+
+-- a test that holds at none of the first k numbers
+first-skip : (f : ℕ → Bool) (k n : ℕ) → k ≤ n → ((j : ℕ) → j < k → f j ≡ false) → first f 0 n ≡ first f k (n - k)
+first-skip f zero n l h = rw sub-zero
+first-skip f (suc k) n l h =
+    first-skip f k n (omega arith) (λ j b. h j (omega arith)) ∙ first-miss f k n (omega arith) (h k (omega arith)) ∙ rw (add-one k)
+
+none-open : (os : List ℕ) → noneOpen os ≡ eqb (length os) 0
+none-open [] = refl
+none-open (o ∷ os) = sym (some (length os))
+
+unnested-by : (n : Nest) (os : List ℕ) (u : Bool) → nestBreaks n os u ≡ unnested (nestNumber n) (length os) u
+unnested-by opens os u = refl
+unnested-by closes os u = none-open os
+unnested-by neither os u = refl
+
+pub row-by : (t : Table) (r q n : ℕ) → q ≡ nest (rowAt t r .kind) → n ≡ length (openAt t r) → rowBreaks11 t r ≡ unnested q n (leb (t .rows) (matchingEnd t r))
+unfolding nest
+row-by t r q n e h = rw (e, h) (unnested-by (nestAt t r) (openAt t r) (leb (t .rows) (matchingEnd t r)))
+
+-- ---- the loop over the rows: what is sought from line 0 on is what is sought from a row on
+
+module _ (t : Table) (laid : Laid t) where
+  at : (r : ℕ) → r < t .rows → breaks11 t (t .decls + t .nodes + r) ≡ rowBreaks11 t r
+  unfolding breaks11
+  at r l =
+      let back : t .decls + t .nodes + r - (t .decls + t .nodes) ≡ r = omega arith in
+      at-row t laid (t .decls + t .nodes + r) (λ n. false) (rowBreaks11 t) (omega arith) (omega arith) ∙ ap (rowBreaks11 t) back
+
+  pub rows-start : first (breaks11 t) 0 (length (t .words) / 4) ≡ firstRow t 0
+  unfolding breaks11
+  rows-start =
+      let e : t .decls + t .nodes + 0 ≡ t .decls + t .nodes = omega arith in
+      rw e (first-skip (breaks11 t) (t .decls + t .nodes) (length (t .words) / 4) (omega (arith, laid .whole)) (λ j l. before-rows t laid j (rowBreaks11 t) l))
+
+  pub row-hit : (r : ℕ) → r < t .rows → rowBreaks11 t r ≡ true → firstRow t r ≡ At (t .decls + t .nodes + r)
+  row-hit r l h = first-hit (breaks11 t) (t .decls + t .nodes + r) (length (t .words) / 4) (omega (arith, laid .whole)) (at r l ∙ h)
+
+  pub row-miss : (r : ℕ) → r < t .rows → rowBreaks11 t r ≡ false → firstRow t r ≡ firstRow t (r + 1)
+  row-miss r l h =
+      let e : t .decls + t .nodes + r + 1 ≡ t .decls + t .nodes + (r + 1) = omega arith in
+      first-miss (breaks11 t) (t .decls + t .nodes + r) (length (t .words) / 4) (omega (arith, laid .whole)) (at r l ∙ h)
+      ∙ ap (λ (i : ℕ). first (breaks11 t) i (length (t .words) / 4 - i)) e
+
+  pub row-none : (r : ℕ) → t .rows ≤ r → firstRow t r ≡ Nothing
+  row-none r l = first-none (breaks11 t) (t .decls + t .nodes + r) (length (t .words) / 4) (omega (arith, laid .whole))

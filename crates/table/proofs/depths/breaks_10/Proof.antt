@@ -1,0 +1,48 @@
+-- `depths::breaks_10` meets its contract: the depth of a node is kept, and a row has none.
+-- Assumes nothing.
+use borrow.Author.Needs.{needs}
+use native.Mathlib.Omega.{arith}
+use Prim.Native.Nat.{_+_, _-_, _<_, _≤_}
+use mathlib.Core.Path.{sym, ap, _∙_}
+use mathlib.Core.Bool.{false}
+use lib.Dec.{ltb}
+use Rattle.table.specs.Rules.{breaks10, depth, mostDepth}
+use Rattle.table.specs.Code.{tableBy}
+use Rattle.table.proofs.CodeLaws.{at-declaration, at-node, at-row}
+use Rattle.table.proofs.depths.breaks_10.Statement.{statement}
+use Rattle.table.proofs.depths.breaks_10.Tie as tie
+
+returns : tie.Need-returns
+unfolding breaks10
+returns c =
+    let start = c .before .before .before in
+    let t = tableBy (start .args .words .now) (start .args .counts) in
+    let i = start .args .line in
+    let laid = start .pre .0 in
+    sym (at-declaration t laid i (λ n. ltb mostDepth (depth t n)) (λ r. false) (c .if1 .taken))
+
+returns-2 : tie.Need-returns-2
+unfolding breaks10
+returns-2 c =
+    let start = c .before .before .before .before .before .before in
+    let t = tableBy (start .args .words .now) (start .args .counts) in
+    let i = start .args .line in
+    let laid = start .pre .0 in
+    let low : i < t .decls + t .nodes = omega arith in
+    let kept = start .pre .1 .0 .right (i - t .decls) (c .before .if2 .taken) in
+    ap (ltb mostDepth) (c .word-or-zero .ensures ∙ kept)
+    ∙ sym (at-node t laid i (λ n. ltb mostDepth (depth t n)) (λ r. false) (c .before .before .before .if1 .left) low)
+
+returns-3 : tie.Need-returns-3
+unfolding breaks10
+returns-3 c =
+    let start = c .before .before .before .before .before in
+    let t = tableBy (start .args .words .now) (start .args .counts) in
+    let i = start .args .line in
+    let laid = start .pre .0 in
+    let high : t .decls + t .nodes ≤ i = omega arith in
+    let inside : i < t .decls + t .nodes + t .rows = omega arith in
+    sym (at-row t laid i (λ n. ltb mostDepth (depth t n)) (λ r. false) high inside)
+
+pub breaks-10-spec : {M : Type 1} → statement M
+breaks-10-spec = tie.close (tie.spec returns (λ c κs. search needs) returns-2 returns-3)

@@ -1,0 +1,79 @@
+-- `loops::first_unnested` meets its contract: what is sought from line 0 on is what is sought from a row on.
+-- Assumes nothing.
+use borrow.Author.Needs.{needs}
+use Prim.Native.Nat.{_≤_, _-_, _/_}
+use native.Mathlib.Omega.{arith}
+use mathlib.Core.Path.{_≡_, refl, sym, _∙_}
+use lib.ListN.{length}
+use Rattle.lists.specs.First.{first}
+use Rattle.model.specs.Table.{openAt}
+use Rattle.table.specs.Rules.{breaks11}
+use Rattle.table.specs.Code.{tableBy, firstRow}
+use Rattle.table.proofs.LoopLaws.{open-more, row-by, row-hit, row-miss, row-none, rows-start}
+use Rattle.table.proofs.loops.first_unnested.Statement.{statement}
+use Rattle.table.proofs.loops.first_unnested.Tie as tie
+
+abbrev Inv-loop : tie.InvT-loop
+Inv-loop words counts count₀ row₀ count row =
+    (row ≤ counts .rows)
+    × (count ≡ length (openAt (tableBy words counts) row))
+    × (count ≤ row)
+    × (first (breaks11 (tableBy words counts)) 0 (length words / 4) ≡ firstRow (tableBy words counts) row)
+
+abbrev μ-loop : tie.MeasureT-loop
+μ-loop words counts count₀ row₀ count row = counts .rows - row
+
+loop-holds : tie.Need-loop-holds Inv-loop μ-loop
+unfolding openAt
+loop-holds c = let t = tableBy (c .before .args .words .now) (c .before .args .counts) in
+    (search needs, refl, search needs, rows-start t (c .before .pre))
+
+returns : tie.Need-returns Inv-loop μ-loop
+returns c =
+    let start = c .before .before .before .before .before .before .before .before .before in
+    let t = tableBy (start .args .words .now) (start .args .counts) in
+    let at-head = c .before .before .before .before .before .before .before .loop in
+    let call = c .before .row-breaks in
+    let breaks = row-by t (at-head .row) (c .before .before .nest-of .result) (at-head .count) (c .before .before .nest-of .ensures) (at-head .inv .1) in
+    sym (at-head .inv .3 ∙ row-hit t (start .pre) (at-head .row) (c .before .before .before .before .before .if1 .taken) (breaks ∙ sym (call .ensures) ∙ c .if2 .taken))
+
+loop-again : tie.Need-loop-again Inv-loop μ-loop
+loop-again c =
+    let start = c .before .before .before .before .before .before .before .before .before .before in
+    let t = tableBy (start .args .words .now) (start .args .counts) in
+    let at-head = c .before .before .before .before .before .before .before .before .loop in
+    let call = c .before .before .row-breaks in
+    let breaks = row-by t (at-head .row) (c .before .before .before .nest-of .result) (at-head .count) (c .before .before .before .nest-of .ensures) (at-head .inv .1) in (
+      search needs,
+      rw (c .open-after .ensures .0, c .before .before .before .nest-of .ensures, at-head .inv .1) (sym (open-more t (at-head .row))),
+      omega (arith, c .open-after .ensures .1),
+      at-head .inv .3 ∙ row-miss t (start .pre) (at-head .row) (c .before .before .before .before .before .before .if1 .taken) (breaks ∙ sym (call .ensures) ∙ c .before .if2 .left),
+    )
+
+returns-2 : tie.Need-returns-2 Inv-loop μ-loop
+returns-2 c =
+    let start = c .before .before .before .before in
+    let t = tableBy (start .args .words .now) (start .args .counts) in
+    let at-head = c .before .before .loop in
+    sym (at-head .inv .3 ∙ row-none t (start .pre) (at-head .row) (c .if1 .left))
+
+pub first-unnested-spec : {M : Type 1} → statement M
+first-unnested-spec =
+    tie.close
+    (tie.spec
+    Inv-loop
+    μ-loop
+    loop-holds
+    (λ c. search needs)
+    (λ c. search needs)
+    (λ c. search needs)
+    (λ c. search needs)
+    (λ c. search needs)
+    (λ c κs. search needs)
+    (λ c κs. search needs)
+    returns
+    (λ c κs. search needs)
+    (λ c. search needs)
+    (λ c. search needs)
+    loop-again
+    returns-2)

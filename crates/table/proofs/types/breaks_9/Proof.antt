@@ -1,0 +1,29 @@
+-- `types::breaks_9` meets its contract: the line is a declaration or not by its place.
+-- Assumes nothing.
+use borrow.Author.Needs.{needs}
+use Prim.Native.Nat.{_+_, _<_}
+use native.Mathlib.Omega.{arith}
+use mathlib.Core.Path.{sym, ap, _∙_}
+use mathlib.Core.Bool.{not}
+use Rattle.table.specs.Code.{tableBy}
+use Rattle.table.proofs.TypeLaws.{breaks-types, no-types}
+use Rattle.table.proofs.types.breaks_9.Statement.{statement}
+use Rattle.table.proofs.types.breaks_9.Tie as tie
+
+returns : tie.Need-returns
+returns c =
+    let start = c .before .before .before .before in
+    let t = tableBy (start .args .words .now) (start .args .counts) in
+    let laid = start .pre .0 in
+    sym (no-types t laid (start .args .line) (c .if1 .taken))
+
+returns-2 : tie.Need-returns-2
+returns-2 c =
+    let start = c .before .before .before .before .before in
+    let t = tableBy (start .args .words .now) (start .args .counts) in
+    let laid = start .pre .0 in
+    let inside : start .args .line < t .decls + t .nodes + t .rows = omega arith in
+    ap not (c .line-typed .ensures) ∙ sym (breaks-types t laid (start .args .line) (start .pre .1 .0) (start .args .types .now) (start .pre .1 .1 .0) (c .before .if1 .left) inside)
+
+pub breaks-9-spec : {M : Type 1} → statement M
+breaks-9-spec = tie.close (tie.spec returns (λ c κs. search needs) returns-2)

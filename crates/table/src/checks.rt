@@ -1,0 +1,159 @@
+// The checks in their order, each over all lines: the first line that breaks it refuses.
+use crate::Counts;
+use crate::Verdict;
+use crate::depths::breaks_10;
+use crate::depths::depths_below;
+use crate::lines::breaks_5;
+use crate::lines::breaks_6;
+use crate::lines::breaks_7;
+use crate::lines::breaks_8;
+use crate::loops::first_unnested;
+use crate::marks::breaks_12;
+use crate::types::breaks_9;
+use crate::types::fill_types;
+use lists::Found;
+ghost use mathlib.Core.Path.{_≡_};
+ghost use mathlib.Core.List.{[], _∷_};
+ghost use Prim.Native.Nat.{_+_, _*_, _/_, _%_, _<_, _≤_};
+ghost use lib.ListN.{length};
+ghost use Rattle.lists.specs.First.{first};
+ghost use Rattle.table.specs.Checks.{machineOf, breaks, firstRefusal};
+ghost use Rattle.table.specs.Code.{countsOf, tableBy, firstOf, Laid, There, Types, Depths};
+
+// Whether a line breaks one of 5 to 8.
+fn line_breaks(check: u32, words: &[u32], counts: Counts, reduced: bool, line: usize) -> bool
+    requires { ⌜ (5 ≤ check) × (check ≤ 8) × (counts .decls ≤ length (now words) / 4) × (counts .nodes ≤ length (now words) / 4) × (4 * line + 3 < length (now words)) ⌝ }
+    requires { ⌜ (check ≡ 8 → Laid (tableBy (now words) counts)) ⌝ }
+    ensures { λ r. ⌜ r ≡ breaks check (machineOf reduced) (tableBy (now (words .entry)) counts) line ⌝ }
+{
+    match check {
+        5 => breaks_5(words, counts, reduced, line),
+        6 => breaks_6(words, counts, line),
+        7 => breaks_7(words, counts, line),
+        _ => breaks_8(words, counts, line),
+    }
+}
+
+// The first line that breaks one of 5 to 8.
+fn first_line(check: u32, words: &[u32], counts: Counts, reduced: bool) -> Found
+    requires { ⌜ (5 ≤ check) × (check ≤ 8) × (counts .decls ≤ length (now words) / 4) × (counts .nodes ≤ length (now words) / 4) ⌝ }
+    requires { ⌜ (check ≡ 8 → Laid (tableBy (now words) counts)) ⌝ }
+    ensures { λ r. ⌜ r ≡ firstOf check reduced (now (words .entry)) counts ⌝ }
+{
+    let lines = words.len() / 4;
+    let mut i: usize = 0;
+    while i < lines {
+        if line_breaks(check, words, counts, reduced, i) {
+            return Found::At(i);
+        }
+        i += 1;
+    }
+    Found::Nothing
+}
+
+// Checks 5 to 8, for the counts of the words.
+pub(crate) fn check_lines(words: &[u32], counts: Counts, reduced: bool) -> Verdict
+    requires { ⌜ (length (now words) % 4 ≡ 0) × (counts ≡ countsOf (now words)) ⌝ }
+    requires { ⌜ (counts .decls ≤ length (now words) / 4) × (counts .nodes ≤ length (now words) / 4) ⌝ }
+    ensures { λ r. ⌜ r ≡ firstRefusal (λ k. firstOf k reduced (now (words .entry)) counts) (5 ∷ 6 ∷ 7 ∷ 8 ∷ []) ⌝ }
+{
+    if let Found::At(i) = first_line(5, words, counts, reduced) {
+        return Verdict::Refused(5, i);
+    }
+    if let Found::At(i) = first_line(6, words, counts, reduced) {
+        return Verdict::Refused(6, i);
+    }
+    if let Found::At(i) = first_line(7, words, counts, reduced) {
+        return Verdict::Refused(7, i);
+    }
+    if let Found::At(i) = first_line(8, words, counts, reduced) {
+        return Verdict::Refused(8, i);
+    }
+    Verdict::Passes
+}
+
+// Whether a line breaks 9, 10 or 12.
+fn sense_breaks(
+    check: u32,
+    words: &[u32],
+    counts: Counts,
+    reduced: bool,
+    types: &[u32],
+    depths: &[u32],
+    line: usize,
+) -> bool
+    requires { ⌜ (9 ≤ check) × (check ≤ 12) × (check ≡ 11 → ⊥) × (4 * line + 3 < length (now words)) ⌝ }
+    requires { ⌜ Laid (tableBy (now words) counts) × There (tableBy (now words) counts) ⌝ }
+    requires { ⌜ Types (tableBy (now words) counts) (now types) (counts .nodes) × Depths (tableBy (now words) counts) (now depths) (counts .nodes) ⌝ }
+    ensures { λ r. ⌜ r ≡ breaks check (machineOf reduced) (tableBy (now (words .entry)) counts) line ⌝ }
+{
+    match check {
+        9 => breaks_9(words, counts, types, line),
+        10 => breaks_10(words, counts, depths, line),
+        _ => breaks_12(words, counts, reduced, line),
+    }
+}
+
+// The first line that breaks 9, 10 or 12.
+fn first_sense(
+    check: u32,
+    words: &[u32],
+    counts: Counts,
+    reduced: bool,
+    types: &[u32],
+    depths: &[u32],
+) -> Found
+    requires { ⌜ (9 ≤ check) × (check ≤ 12) × (check ≡ 11 → ⊥) ⌝ }
+    requires { ⌜ Laid (tableBy (now words) counts) × There (tableBy (now words) counts) ⌝ }
+    requires { ⌜ Types (tableBy (now words) counts) (now types) (counts .nodes) × Depths (tableBy (now words) counts) (now depths) (counts .nodes) ⌝ }
+    ensures { λ r. ⌜ r ≡ firstOf check reduced (now (words .entry)) counts ⌝ }
+{
+    let lines = words.len() / 4;
+    let mut i: usize = 0;
+    while i < lines {
+        if sense_breaks(check, words, counts, reduced, types, depths, i) {
+            return Found::At(i);
+        }
+        i += 1;
+    }
+    Found::Nothing
+}
+
+// Checks 9 to 12, with the types and depths at hand.
+fn check_with(
+    words: &[u32],
+    counts: Counts,
+    reduced: bool,
+    types: &[u32],
+    depths: &[u32],
+) -> Verdict
+    requires { ⌜ Laid (tableBy (now words) counts) × There (tableBy (now words) counts) ⌝ }
+    requires { ⌜ Types (tableBy (now words) counts) (now types) (counts .nodes) × Depths (tableBy (now words) counts) (now depths) (counts .nodes) ⌝ }
+    ensures { λ r. ⌜ r ≡ firstRefusal (λ k. firstOf k reduced (now (words .entry)) counts) (9 ∷ 10 ∷ 11 ∷ 12 ∷ []) ⌝ }
+{
+    if let Found::At(i) = first_sense(9, words, counts, reduced, types, depths) {
+        return Verdict::Refused(9, i);
+    }
+    if let Found::At(i) = first_sense(10, words, counts, reduced, types, depths) {
+        return Verdict::Refused(10, i);
+    }
+    if let Found::At(i) = first_unnested(words, counts) {
+        return Verdict::Refused(11, i);
+    }
+    if let Found::At(i) = first_sense(12, words, counts, reduced, types, depths) {
+        return Verdict::Refused(12, i);
+    }
+    Verdict::Passes
+}
+
+// Checks 9 to 12, of a table that passes 4 to 8.
+pub(crate) fn check_senses(words: &[u32], counts: Counts, reduced: bool) -> Verdict
+    requires { ⌜ Laid (tableBy (now words) counts) × There (tableBy (now words) counts) ⌝ }
+    ensures { λ r. ⌜ r ≡ firstRefusal (λ k. firstOf k reduced (now (words .entry)) counts) (9 ∷ 10 ∷ 11 ∷ 12 ∷ []) ⌝ }
+{
+    let mut types = [0u32; 1024];
+    fill_types(words, counts, &mut types);
+    let mut depths = [0u32; 1024];
+    depths_below(words, counts, &mut depths, counts.nodes);
+    check_with(words, counts, reduced, &types, &depths)
+}

@@ -1,0 +1,106 @@
+// The types of nodes as numbers (1 bool, 2 uint, 3 pointer), kept in a buffer in rising order, and check 9.
+use crate::Counts;
+use crate::kinds::is_typed;
+use crate::kinds::result_of;
+use crate::kinds::result_type;
+use crate::kinds::typing_of;
+use lists::word_or_zero;
+ghost use mathlib.Core.Path.{_≡_};
+ghost use Prim.Native.Nat.{_+_, _*_, _<_};
+ghost use lib.ListN.{length, getD};
+ghost use Rattle.model.specs.Table.{typeOf};
+ghost use Rattle.model.specs.Accepted.{tyNumber};
+ghost use Rattle.table.specs.Rules.{breaks9};
+ghost use Rattle.table.specs.Code.{tableBy, typeBelow, variableType, lineType, lineTyped, Laid, There, Types};
+
+fn type_number(kind: u32) -> u32
+    ensures { λ r. ⌜ r ≡ tyNumber (typeOf kind) ⌝ }
+{
+    if kind == 1 {
+        return 1;
+    }
+    if kind == 2 {
+        return 2;
+    }
+    3
+}
+
+fn variable_type(words: &[u32], x: u32) -> u32
+    ensures { λ r. ⌜ r ≡ variableType (now (words .entry)) x ⌝ }
+{
+    let i = x as usize;
+    type_number(word_or_zero(words, 4 * i))
+}
+
+// The type of an operand of a node; bool where it is not smaller.
+fn type_below(types: &[u32], node: usize, x: u32) -> u32
+    ensures { λ r. ⌜ r ≡ typeBelow (now (types .entry)) node x ⌝ }
+{
+    let i = x as usize;
+    if i < node {
+        return word_or_zero(types, i);
+    }
+    1
+}
+
+// The type of the node at a line, from those of smaller nodes.
+fn line_type(words: &[u32], types: &[u32], line: usize, node: usize) -> u32
+    requires { ⌜ 4 * line + 3 < length (now words) ⌝ }
+    ensures { λ r. ⌜ r ≡ lineType (now (words .entry)) (now (types .entry)) line node ⌝ }
+{
+    let w = 4 * line;
+    let a = words[w + 1];
+    let v = variable_type(words, a);
+    let x = type_below(types, node, a);
+    let y = type_below(types, node, words[w + 2]);
+    result_type(result_of(words[w]), v, x, y)
+}
+
+// The types of all nodes, in rising order.
+pub(crate) fn fill_types(words: &[u32], counts: Counts, types: &mut [u32])
+    requires { ⌜ Laid (tableBy (now words) counts) ⌝ }
+    requires { ⌜ length (now types) ≡ 1024 ⌝ }
+    ensures { λ _. ⌜ Types (tableBy (now (words .entry)) counts) (now (types .exit)) (counts .nodes) ⌝ }
+{
+    let mut n: usize = 0;
+    while n < counts.nodes {
+        let v = line_type(words, types, counts.decls + n, n);
+        types[n] = v;
+        n += 1;
+    }
+}
+
+// Whether the types of a line's operands are as its kind asks.
+fn line_typed(words: &[u32], types: &[u32], line: usize) -> bool
+    requires { ⌜ 4 * line + 3 < length (now words) ⌝ }
+    ensures { λ r. ⌜ r ≡ lineTyped (now (words .entry)) (now (types .entry)) line ⌝ }
+{
+    let w = 4 * line;
+    let a = words[w + 1];
+    let v = variable_type(words, a);
+    let x = kept_type(types, a);
+    let y = kept_type(types, words[w + 2]);
+    let z = kept_type(types, words[w + 3]);
+    is_typed(typing_of(words[w]), v, x, y, z)
+}
+
+fn kept_type(types: &[u32], x: u32) -> u32
+    ensures { λ r. ⌜ r ≡ getD (now (types .entry)) x 0 ⌝ }
+{
+    let i = x as usize;
+    word_or_zero(types, i)
+}
+
+// 9
+pub(crate) fn breaks_9(words: &[u32], counts: Counts, types: &[u32], line: usize) -> bool
+    requires { ⌜ Laid (tableBy (now words) counts) ⌝ }
+    requires { ⌜ There (tableBy (now words) counts) ⌝ }
+    requires { ⌜ Types (tableBy (now words) counts) (now types) (counts .nodes) ⌝ }
+    requires { ⌜ 4 * line + 3 < length (now words) ⌝ }
+    ensures { λ r. ⌜ r ≡ breaks9 (tableBy (now (words .entry)) counts) line ⌝ }
+{
+    if line < counts.decls {
+        return false;
+    }
+    !line_typed(words, types, line)
+}
