@@ -5,3 +5,4 @@ pub mod ReadingLaws
 pub mod ReadBack
 pub mod WriteAgain
 pub mod RoundTrips
+pub mod WritingLaws

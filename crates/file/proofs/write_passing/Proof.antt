@@ -1,25 +1,22 @@
+-- A buffer of another size is refused; else the blocks are written.
+-- Assumes nothing.
 use borrow.Author.Needs.{needs}
+use native.Mathlib.Omega.{arith}
+use Rattle.file.proofs.RoundTrips.{passing-short}
+use Rattle.file.proofs.WritingLaws.{by-size, done}
 use Rattle.file.proofs.write_passing.Statement.{statement}
 use Rattle.file.proofs.write_passing.Tie as tie
-use Rattle.file.proofs.write_passing.Reads as reads
-use Rattle.file.proofs.write_passing.Lts as lts
-use Rattle.file.proofs.write_blocks.Reads as write-blocks-reads
 
--- src/lib.rt:70:9
 returns : tie.Need-returns
-returns c = ?
+returns c = by-size _ _ (c .before .before .before .pre) (c .if1 .taken)
 
--- src/lib.rt:72:20
 write-blocks-requires : tie.Need-write-blocks-requires
-write-blocks-requires c κs = ?
+write-blocks-requires c κs = (passing-short _ (c .before .before .before .before .pre) .1, c .before .if1 .left)
 
--- src/lib.rt:64:1
-same-length : tie.Need-same-length
-same-length c = search needs
-
--- src/lib.rt:64:1
 returns-2 : tie.Need-returns-2
-returns-2 c = ?
+returns-2 c =
+    let a = c .before .before .before .before .before .before .before .args in
+    done (a .words .now) (a .out .now) (c .before .before .before .before .before .before .before .pre) (c .before .before .before .before .if1 .left) _ _ (c .before .before .write-blocks .ensures .0) (c .before .before .write-blocks .ensures .1)
 
 pub write-passing-spec : {M : Type 1} → statement M
-write-passing-spec = tie.close (tie.spec returns write-blocks-requires same-length returns-2)
+write-passing-spec = tie.close (tie.spec returns write-blocks-requires (λ c. search needs) returns-2)
