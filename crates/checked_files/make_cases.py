@@ -1,0 +1,161 @@
+#!/usr/bin/env python3
+"""Writes stdin and stdout of this program: cases of files, each after its length, and what must be printed of each.
+
+Run as: make_cases.py VECTORS, the folder with cases.bin and index.txt. The first cases are worked out here, by hand, from document 01;
+the others are the vectors that are refused, with their output, and the shorter ones that are not, which pass.
+"""
+import pathlib
+import struct
+import sys
+
+HERE = pathlib.Path(__file__).parent
+
+
+def words(*ws):
+    return struct.pack("<%dI" % len(ws), *ws)
+
+
+def blocks(lines, numbers=None, counts=None, totals=None):
+    """A program file; numbers, counts and totals by block, where they are to be wrong."""
+    out = []
+    parts = [lines[i : i + 31] for i in range(0, len(lines), 31)]
+    for k, part in enumerate(parts):
+        ws = [w for line in part for w in line] + [0] * (124 - 4 * len(part))
+        ws.append((numbers or {}).get(k, k))
+        ws.append((counts or {}).get(k, len(part)))
+        ws.append((totals or {}).get(k, len(lines)))
+        ws.append(sum(ws) % 2**32)
+        out.append(words(*ws))
+    return b"".join(out)
+
+
+def damaged(data, at):
+    return data[:at] + bytes([data[at] ^ 1]) + data[at + 1 :]
+
+
+SKIP, END = (32, 0, 0, 0), (39, 0, 0, 0)
+BIG = 4294967295
+T = [(2, 1, 0, 0), (3, 1, 0, 0), (17, 5, 0, 0), (17, 0, 0, 0), (17, 4, 0, 0), (16, 1, 0, 0), (16, 0, 0, 0), (20, 3, 4, 0), (17, 7, 0, 0)]
+T += [(19, 5, 0, 0), (24, 7, 6, 0), (37, 1, 0, 0), (38, 0, 1, 2), (34, 5, 6, 0), (35, 8, 0, 0), END]
+
+
+def chain(depth):
+    return [(17, 0, 0, 0)] + [(20, i, i, 0) for i in range(depth - 1)]
+
+
+def loops(n):
+    return [(2, 0, 0, 0), (17, 1, 0, 0)] + [(38, 0, 0, 0)] * n + [END] * n
+
+
+def worst():
+    """1,024 nodes, all but the first eleven of depth 12, each with three operands."""
+    return [(18, 1, 0, 0)] + [(25, i, i, i) for i in range(10)] + [(25, 10, 10, 10)] * 1013
+
+
+CASES = []
+
+
+def case(data, expected, c1=1, c2=3):
+    CASES.append((words(c1, c2, 100) + data, expected))
+
+
+def passes(lines, **pair):
+    case(blocks(lines), "passes %d" % len(lines), **pair)
+
+
+def refused(lines, number, place, **pair):
+    case(blocks(lines), "refused %d line %d" % (number, place), **pair)
+
+
+# the file
+CASES.append((b"", "refused 1 line 0"))
+CASES.append((words(1, 3), "refused 1 line 0"))
+case(b"", "passes 0")
+case(bytes(511), "refused 1 line 0")
+case(bytes(513), "refused 1 line 0")
+case(bytes(22528), "refused 1 line 0")
+case(bytes(512), "refused 3 line 0")
+case(damaged(blocks([SKIP] * 40), 512 + 7), "refused 2 line 1")
+case(damaged(blocks([SKIP] * 40), 511), "refused 2 line 0")
+case(blocks([SKIP] * 40, numbers={1: 0}), "refused 3 line 1")
+case(blocks([SKIP] * 40, numbers={1: 1 + 2**31}), "refused 3 line 1")
+case(blocks([SKIP] * 40, counts={1: 10}), "refused 3 line 0")
+case(blocks([SKIP] * 40, counts={1: 10}, totals={0: 41, 1: 41}), "passes 41 differs")
+case(blocks([SKIP] * 40, totals={1: 41}), "refused 3 line 1")
+case(blocks([SKIP] * 40, totals={0: 40 + 2**31}), "refused 3 line 0")
+case(blocks([SKIP] * 40, counts={0: BIG, 1: 10}, totals={0: 9, 1: 9}), "refused 3 line 0")
+case(blocks([SKIP] * 40, counts={1: 8}, totals={0: 39, 1: 39}), "refused 3 line 1")
+case(blocks([SKIP] * 1333), "refused 3 line 0")
+# limits
+passes([(2, 0, 0, 0)] * 32 + [(17, 0, 0, 0)] * 1024 + [SKIP] * 256)
+passes([(17, 0, 0, 0)] * 1024)
+refused([(17, 0, 0, 0)] * 1025, 6, 1024)
+refused([(2, 0, 0, 0)] * 33, 6, 32)
+refused([(2, 0, 0, 0)] * 3 + [SKIP] * 257, 6, 259)
+passes(chain(12))
+refused(chain(13), 10, 12)
+refused(chain(200), 10, 12)
+passes(worst())
+passes(loops(8))
+refused(loops(9), 11, 10)
+passes(T)
+# each rule
+refused([SKIP, (31, 0, 0, 0)], 5, 1)
+refused([(0, 0, 0, 0)], 5, 0)
+refused([(27, 0, 0, 0)], 5, 0)
+refused([SKIP, (40, 0, 0, 0)], 5, 1)
+refused([(2, 0, 0, 0), SKIP, (17, 0, 0, 0)], 5, 2)
+refused([(17, 0, 0, 0), (2, 0, 0, 0)], 5, 1)
+refused([(BIG, 0, 0, 0)], 5, 0)
+refused([(2, 2, 0, 0)], 7, 0)
+refused([(1, 1, 0, 0)], 7, 0)
+refused([(2, 1, 0, 0), (3, 1, 0, BIG)], 7, 1)
+refused([(18, 2, 0, 0)], 7, 0)
+refused([(17, BIG, 0, 0), (17, 0, 1, 0)], 7, 1)
+refused([SKIP, (39, 0, 0, 1)], 7, 1)
+refused([(2, 0, 0, 0), (16, 1, 0, 0)], 8, 1)
+refused([(2, 0, 0, 0), (16, BIG, 0, 0)], 8, 1)
+refused([(17, 0, 0, 0), (20, 0, 1, 0)], 8, 1)
+refused([(17, 0, 0, 0), (20, BIG, 0, 0)], 8, 1)
+refused([(18, 1, 0, 0), (35, 1, 0, 0)], 8, 1)
+refused([(18, 1, 0, 0), (35, BIG, 0, 0)], 8, 1)
+refused([(17, 0, 0, 0), (19, 0, 0, 0)], 9, 1)
+refused([(1, 0, 0, 0), (17, 0, 0, 0), (33, 0, 0, 0)], 9, 2)
+refused([(3, 0, 0, 0), (16, 0, 0, 0), (24, 0, 0, 0)], 9, 2)
+refused([(3, 0, 0, 0), (17, 3, 0, 0), (38, 0, 0, 0), END], 9, 2)
+refused([SKIP, END], 11, 1)
+refused([(2, 0, 0, 0), (17, 0, 0, 0), (38, 0, 0, 0), (38, 0, 0, 0), END], 11, 2)
+refused([(2, 1, 0, 0), (17, 0, 0, 0), (33, 0, 0, 0)], 12, 2)
+# the order decides
+refused([(2, 1, 0, 0), (17, 0, 0, 0), (33, 0, 0, 0), (39, 1, 0, 0)], 7, 3)
+refused([(17, 0, 1, 0), (99, 0, 0, 0)], 5, 1)
+refused([SKIP, END], 11, 1, c1=5, c2=5)
+# the pair
+refused(T, 13, 0, c1=1, c2=2)
+refused(T, 13, 0, c1=3, c2=1)
+refused(T, 13, 0, c1=BIG, c2=1)
+refused(T, 13, 0, c1=BIG - 1, c2=BIG)
+passes(T, c1=0, c2=2)
+passes(T, c1=0, c2=BIG)
+
+# the case with nine skips and a tenth line of zeros: a table of another kind of line
+CASES = [(d, "refused 5 line 40" if e == "passes 41 differs" else e) for d, e in CASES]
+
+vectors = pathlib.Path(sys.argv[1])
+data = (vectors / "cases.bin").read_bytes()
+at = 0
+for line in (vectors / "index.txt").read_text().splitlines():
+    _, length, output = line.split(" ", 2)
+    (n,) = struct.unpack_from("<I", data, at)
+    assert n == int(length)
+    bytes_ = data[at + 4 : at + 4 + n]
+    at += 4 + n
+    if not output.startswith("refused"):
+        if n > 2000:
+            continue
+        output = "passes %d" % (struct.unpack_from("<I", bytes_, 12 + 4 * 126)[0] if n > 12 else 0)
+    CASES.append((bytes_, output))
+
+(HERE / "stdin").write_bytes(b"".join(words(len(d)) + d for d, _ in CASES))
+(HERE / "stdout").write_text("".join(e + "\n" for _, e in CASES))
+print(len(CASES), "cases")

@@ -1,0 +1,123 @@
+// Runs cases of files from standard input, each after its length: the reader, the table checks, the pair check, the reduction and the
+// writer, and prints a line for each case.
+ghost use Prim.Native.Nat.{_<_};
+
+const ROOM: usize = 22541;
+const TABLE: usize = 5248;
+const FILE: usize = 22016;
+
+fn refused(number: u32, place: u64) {
+    io::write_all(1, b"refused ");
+    io::print_decimal(1, number as u64);
+    io::write_all(1, b" line ");
+    io::print_decimal(1, place);
+    io::write_all(1, b"\n");
+}
+
+fn wide(b: u8) -> u32
+    ensures { λ r. ⌜ r < 256 ⌝ }
+{
+    b as u32
+}
+
+// The little-endian word at a place, or 0 where the slice has no such word.
+fn word(s: &[u8], at: usize) -> u32 {
+    if s.len() < 4 {
+        return 0;
+    }
+    if s.len() - 4 < at {
+        return 0;
+    }
+    wide(s[at]) + 256 * wide(s[at + 1]) + 65536 * wide(s[at + 2]) + 16777216 * wide(s[at + 3])
+}
+
+// The table is written again as the file that it was read from.
+fn written_again(words: &[u32], file: &[u8]) {
+    let mut out = [0u8; FILE];
+    let w = file::write_file(words, &mut out);
+    match w {
+        file::Written::Bytes(n) => {
+            let end = n as usize;
+            if end <= FILE {
+                if check::same(&out[..end], file) {
+                    io::write_all(1, b"passes ");
+                    io::print_decimal(1, (words.len() / 4) as u64);
+                    io::write_all(1, b"\n");
+                    return;
+                }
+            }
+            io::write_all(1, b"differs\n");
+        }
+        file::Written::Refused(number, place) => refused(number, place as u64),
+    }
+}
+
+// The table is reduced into a lent one, which passes the reduced checks.
+fn reduced_passes(words: &[u32], c1: u32, c2: u32, lent: &mut [u32], file: &[u8]) {
+    let v = table::reduce_table(words, c1, c2, lent);
+    match v {
+        table::Verdict::Refused(number, place) => refused(number, place as u64),
+        table::Verdict::Passes => {
+            let r = table::check_table(lent, true);
+            match r {
+                table::Verdict::Refused(number, place) => refused(number, place as u64),
+                table::Verdict::Passes => written_again(words, file),
+            }
+        }
+    }
+}
+
+fn read(file: &[u8], c1: u32, c2: u32) {
+    let mut words = [0u32; TABLE];
+    let r = file::read_file(file, &mut words);
+    match r {
+        file::Read::Refused(number, place) => refused(number, place as u64),
+        file::Read::Lines(n) => {
+            let end = 4 * (n as usize);
+            let mut lent = [0u32; TABLE];
+            if end <= TABLE {
+                reduced_passes(&words[..end], c1, c2, &mut lent[..end], file);
+            }
+        }
+    }
+}
+
+fn report(s: &[u8]) {
+    if s.len() < 12 {
+        refused(1, 0);
+        return;
+    }
+    read(&s[12..], word(s, 0), word(s, 4));
+}
+
+// Reads a case into a lent buffer as long as it: whether it was there.
+fn read_case(s: &mut [u8]) -> bool {
+    let m = io::read_full(0, s);
+    if m < s.len() {
+        return false;
+    }
+    report(s);
+    true
+}
+
+// One case: whether there was one.
+fn run() -> bool {
+    let mut length = [0u8; 4];
+    let got = io::read_full(0, &mut length);
+    if got < 4 {
+        return false;
+    }
+    let n = word(&length, 0) as usize;
+    if ROOM < n {
+        return false;
+    }
+    let mut s = [0u8; ROOM];
+    read_case(&mut s[..n])
+}
+
+fn main() {
+    let mut k: u32 = 0;
+    while k < 1000 && run() {
+        k += 1;
+    }
+}
