@@ -3,7 +3,9 @@
 ghost use Prim.Native.Nat.{_<_};
 
 const ROOM: usize = 22541;
+
 const TABLE: usize = 5248;
+
 const FILE: usize = 22016;
 
 fn refused(number: u32, place: u64) {
@@ -54,7 +56,7 @@ fn written_again(words: &[u32], file: &[u8]) {
 
 // The table is reduced into a lent one, which passes the reduced checks.
 fn reduced_passes(words: &[u32], c1: u32, c2: u32, lent: &mut [u32], file: &[u8]) {
-    let v = table::reduce_table(words, c1, c2, lent);
+    let v = reduction::reduce_table(words, c1, c2, lent);
     match v {
         table::Verdict::Refused(number, place) => refused(number, place as u64),
         table::Verdict::Passes => {

@@ -16,9 +16,7 @@ use Rattle.file.specs.declared.Written.the-variants.{Bytes}
 use Rattle.lists.specs.If.{if_then_else_}
 use Rattle.lists.specs.Tab.{padded}
 use Rattle.model.specs.State.MachineKind.{plain}
-
-use Rattle.table.specs.Checks.{tableCheck}
-use Rattle.table.specs.Reduction.{andThen, sizeCheck}
+use Rattle.table.specs.Checks.{tableCheck, andThen, sizeCheck}
 use Rattle.table.proofs.Sizes.{sizes}
 use Rattle.table.proofs.Passing.{Passing, passing}
 use Rattle.file.specs.Layout.{fileBytes, lines}

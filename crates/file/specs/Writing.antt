@@ -7,8 +7,7 @@ use Rattle.lists.specs.Tab.{padded}
 use Rattle.model.specs.State.MachineKind.{plain}
 use Rattle.table.specs.declared.Verdict.{Verdict}
 use Rattle.table.specs.declared.Verdict.the-variants.{Passes, Refused}
-use Rattle.table.specs.Checks.{tableCheck}
-use Rattle.table.specs.Reduction.{andThen, sizeCheck}
+use Rattle.table.specs.Checks.{tableCheck, andThen, sizeCheck}
 use Rattle.file.specs.declared.Written.{Written}
 use Rattle.file.specs.declared.Written.the-variants.{Bytes, Refused as NotWritten}
 use Rattle.file.specs.Layout.{fileBytes}

@@ -4,7 +4,6 @@ pub mod Closed
 pub mod Passing
 pub mod ReducedPasses
 pub mod PromiseProofs
-pub mod ReductionLaws
 pub mod KindLaws
 pub mod CodeLaws
 pub mod TypeLaws

@@ -205,27 +205,36 @@ module _ (m : MachineKind) (w : List ℕ) (none : first (breaks 5 m (tableOf w))
     unfolding breaks6 tableOf
     few-declarations = elim (decLe d mostDeclarations) [
       | yes h ↦ h
-      | no h ↦ absurd (omega (arith, within mostDeclarations mostDeclarations (isDeclaration (kind mostDeclarations))
-          (or-left _ _ (unbroken6 mostDeclarations (omega (arith, all-lines)))) (declaration-at mostDeclarations (omega (arith, all-lines)) (omega arith))))
+      | no h ↦ absurd (omega (
+        arith,
+        within mostDeclarations mostDeclarations (isDeclaration (kind mostDeclarations))
+            (or-left _ _ (unbroken6 mostDeclarations (omega (arith, all-lines)))) (declaration-at mostDeclarations (omega (arith, all-lines)) (omega arith)),
+      ))
     ]
 
     few-nodes : tableOf w .nodes ≤ mostNodes
     unfolding breaks6 tableOf
     few-nodes = elim (decLe (tableOf w .nodes) mostNodes) [
       | yes h ↦ h
-      | no h ↦ absurd (omega (arith, within (d + mostNodes) (d + mostNodes) (isNode (kind (d + mostNodes)))
-          (or-left _ _ (or-right (isDeclaration (kind (d + mostNodes)) && leb mostDeclarations (d + mostNodes)) _ (unbroken6 (d + mostNodes) (omega (arith, all-lines)))))
-          (node-at (d + mostNodes) (omega (arith, all-lines)) (omega arith) (omega arith))))
+      | no h ↦ absurd (omega (
+        arith,
+        within (d + mostNodes) (d + mostNodes) (isNode (kind (d + mostNodes)))
+            (or-left _ _ (or-right (isDeclaration (kind (d + mostNodes)) && leb mostDeclarations (d + mostNodes)) _ (unbroken6 (d + mostNodes) (omega (arith, all-lines)))))
+            (node-at (d + mostNodes) (omega (arith, all-lines)) (omega arith) (omega arith)),
+      ))
     ]
 
     few-rows : tableOf w .rows ≤ mostRows
     unfolding breaks6 tableOf
     few-rows = elim (decLe (tableOf w .rows) mostRows) [
       | yes h ↦ h
-      | no h ↦ absurd (omega (arith, within (dn + mostRows) (dn + mostRows) (isRow (kind (dn + mostRows)))
-          (or-right (isNode (kind (dn + mostRows)) && leb (d + mostNodes) (dn + mostRows)) _
-          (or-right (isDeclaration (kind (dn + mostRows)) && leb mostDeclarations (dn + mostRows)) _ (unbroken6 (dn + mostRows) (omega (arith, all-lines)))))
-          (row-at (dn + mostRows) (omega (arith, all-lines)) (omega arith))))
+      | no h ↦ absurd (omega (
+        arith,
+        within (dn + mostRows) (dn + mostRows) (isRow (kind (dn + mostRows)))
+            (or-right (isNode (kind (dn + mostRows)) && leb (d + mostNodes) (dn + mostRows)) _
+            (or-right (isDeclaration (kind (dn + mostRows)) && leb mostDeclarations (dn + mostRows)) _ (unbroken6 (dn + mostRows) (omega (arith, all-lines)))))
+            (row-at (dn + mostRows) (omega (arith, all-lines)) (omega arith)),
+      ))
     ]
 
 -- at most 32 declarations, 1,024 nodes and 256 rows, and no other line

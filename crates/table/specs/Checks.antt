@@ -52,3 +52,12 @@ tableCheck m w =
 abbrev pub machineOf : Bool → MachineKind
 machineOf false = plain
 machineOf true = reduced
+
+-- one check after another, as in "Tested in this order"
+abbrev pub andThen : Verdict → Verdict → Verdict
+andThen Passes next = next
+andThen (Refused number place) next = Refused number place
+
+-- 14: a buffer "not the stated size", at place 0
+abbrev pub sizeCheck : ℕ → ℕ → Verdict
+sizeCheck size stated = if eqb size stated then Passes else Refused 14 0

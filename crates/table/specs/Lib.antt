@@ -1,6 +1,5 @@
--- The table checks, the pair check and the reduction with its buffer: what each refuses, with number and place.
+-- The table checks: what each refuses, with number and place, and what passing them promises.
 pub mod Rules
 pub mod Checks
 pub mod Code
-pub mod Reduction
 pub mod Promises

@@ -15,8 +15,8 @@ const UINT: u32 = 2;
 
 const POINTER: u32 = 3;
 
-// Whether a variable is declared with the kind and is marked.
-pub(crate) fn is_marked(words: &[u32], kind: u32, x: u32) -> bool
+// Whether a variable is declared with the kind and is marked. Public for the reduction.
+pub fn is_marked(words: &[u32], kind: u32, x: u32) -> bool
     ensures { λ r. ⌜ r ≡ marked (now (words .entry)) kind x ⌝ }
 {
     let i = x as usize;

@@ -1,29 +1,18 @@
 -- The pair check and the reduction with its lent table: number and place, and each word of the lent table.
 use Prim.Native.Nat.{ℕ}
-use mathlib.Core.Bool.{Bool, true, false}
 use mathlib.Core.List.{List}
 use lib.ListN.{length}
-use lib.Dec.{eqb}
 use Rattle.lists.specs.If.{if_then_else_}
 use Rattle.model.specs.Class.{acceptedPair}
 use Rattle.model.specs.State.MachineKind.{plain}
 use Rattle.model.specs.Reduce.{reduce}
 use Rattle.table.specs.declared.Verdict.{Verdict}
 use Rattle.table.specs.declared.Verdict.the-variants.{Passes, Refused}
-use Rattle.table.specs.Checks.{tableCheck}
-
--- one check after another
-abbrev pub andThen : Verdict → Verdict → Verdict
-andThen Passes next = next
-andThen (Refused number place) next = Refused number place
+use Rattle.table.specs.Checks.{tableCheck, andThen, sizeCheck}
 
 -- 13: "not c1 + 1 < c2", at place 0
 abbrev pub pairCheck : ℕ → ℕ → Verdict
 pairCheck c1 c2 = if acceptedPair c1 c2 then Passes else Refused 13 0
-
--- 14: a buffer "not the stated size", at place 0
-abbrev pub sizeCheck : ℕ → ℕ → Verdict
-sizeCheck size stated = if eqb size stated then Passes else Refused 14 0
 
 -- 4 to 12, 13, 14: "reduced table not as long as its table" (R12)
 unfoldable pub reduceAnswer : List ℕ → ℕ → ℕ → ℕ → Verdict

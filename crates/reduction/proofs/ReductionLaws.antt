@@ -8,10 +8,10 @@ use lib.ListN.{length}
 use borrow.Author.Tests.{eq-eqb, ne-eqb}
 use Rattle.model.specs.State.MachineKind.{plain}
 use Rattle.model.specs.Reduce.{reduce}
 use Rattle.table.specs.declared.Verdict.{Verdict}
 use Rattle.table.specs.declared.Verdict.the-variants.{Passes, Refused}
 use Rattle.table.specs.Checks.{tableCheck}
-use Rattle.table.specs.Reduction.{pairCheck, reduceAnswer, reduceBuffer}
+use Rattle.reduction.specs.Reduction.{pairCheck, reduceAnswer, reduceBuffer}
 
 module _ (w : List ℕ) (c1 c2 : ℕ) (lent : List ℕ) where
   -- the answer v with the lent table as it is in out

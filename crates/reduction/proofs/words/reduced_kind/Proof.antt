@@ -3,8 +3,8 @@ use mathlib.Core.Path.{sym, _∙_}
 use borrow.Author.Needs.{needs}
 use Rattle.lists.proofs.Flags.{flags}
 use Rattle.model.specs.Reduce.{reducedKind}
-use Rattle.table.proofs.reduction.reduced_kind.Statement.{statement}
-use Rattle.table.proofs.reduction.reduced_kind.Tie as tie
+use Rattle.reduction.proofs.words.reduced_kind.Statement.{statement}
+use Rattle.reduction.proofs.words.reduced_kind.Tie as tie
 
 pub reduced-kind-spec : {M : Type 1} → statement M
 unfolding reducedKind

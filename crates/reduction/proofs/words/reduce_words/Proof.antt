@@ -7,8 +7,8 @@ use lib.ListN.{length, take, length-set}
 use Rattle.lists.specs.Tab.{tab}
 use Rattle.lists.proofs.TabLaws.{tab-more, tab-all}
 use Rattle.model.specs.Reduce.{reducedWord, reduce}
-use Rattle.table.proofs.reduction.reduce_words.Statement.{statement}
-use Rattle.table.proofs.reduction.reduce_words.Tie as tie
+use Rattle.reduction.proofs.words.reduce_words.Statement.{statement}
+use Rattle.reduction.proofs.words.reduce_words.Tie as tie
 
 abbrev Inv-loop : tie.InvT-loop
 Inv-loop words out₀ i₀ out i = (i ≤ length words) × (length out ≡ length words) × (take i out ≡ tab i (reducedWord words))

@@ -3,8 +3,8 @@ use mathlib.Core.Path.{_≡_, sym, _∙_}
 use borrow.Author.Needs.{needs}
 use borrow.Author.Tests.{eq-eqb, ne-eqb}
 use Rattle.lists.proofs.Flags.{flags}
-use Rattle.table.proofs.reduction.reduced_word.Statement.{statement}
-use Rattle.table.proofs.reduction.reduced_word.Tie as tie
+use Rattle.reduction.proofs.words.reduced_word.Statement.{statement}
+use Rattle.reduction.proofs.words.reduced_word.Tie as tie
 
 returns : tie.Need-returns
 returns c = search (flags, ← c .before .word-or-zero .ensures)

@@ -3,9 +3,9 @@
 use borrow.Author.Needs.{needs}
 use mathlib.Core.Path.{_≡_}
 use native.Mathlib.Omega.{arith}
-use Rattle.table.proofs.ReductionLaws.{by-table, by-pair, by-size, reduced}
-use Rattle.table.proofs.reduce_table.Statement.{statement}
-use Rattle.table.proofs.reduce_table.Tie as tie
+use Rattle.reduction.proofs.ReductionLaws.{by-table, by-pair, by-size, reduced}
+use Rattle.reduction.proofs.reduce_table.Statement.{statement}
+use Rattle.reduction.proofs.reduce_table.Tie as tie
 
 returns : tie.Need-returns
 returns c = by-table _ _ _ _ _ (c .before .before .check-table .ensures) (c .enum-told2 .given .1)

@@ -1,0 +1,2 @@
+-- The laws by which the reduction is proved.
+pub mod ReductionLaws

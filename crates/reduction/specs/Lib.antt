@@ -1,0 +1,2 @@
+-- The pair check and the reduction with its lent table.
+pub mod Reduction
