@@ -4,3 +4,4 @@ pub mod AnswerLaws
 pub mod NodeLaws
 pub mod FreshLaws
 pub mod RecordLaws
+pub mod RunLaws

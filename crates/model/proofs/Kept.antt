@@ -38,15 +38,15 @@ use Rattle.model.proofs.Safe.{Held}
 use Rattle.model.proofs.SafeStep.{MoveOk, loopRows, safe-step}
 
 -- a value that is given has the property, and the choices left are numbers
-abbrev Given : {A : Type 0} → (A → Type 0) → Out A → Type 0
+abbrev pub Given : {A : Type 0} → (A → Type 0) → Out A → Type 0
 Given P (gives a left) = P a × Numbers left
 Given P (fails left) = Unit {0}
 Given P badChoice = Unit {0}
 Given P noChoice = Unit {0}
 Given P stuck = Unit {0}
 
-record Keeps {A : Type 0} (P : A → Type 0) (w : Work A) : Type 0 where
-  kept : (cs : List ℕ) → Numbers cs → Given P (w cs)
+pub record Keeps {A : Type 0} (P : A → Type 0) (w : Work A) : Type 0 where
+  pub kept : (cs : List ℕ) → Numbers cs → Given P (w cs)
 
 keeps-give : {A : Type 0} {P : A → Type 0} {a : A} → P a → Keeps P (give a)
 keeps-give h = record { kept = λ cs n. (h, n) }
@@ -207,7 +207,7 @@ any-node ps t s w n = keeps-if (ltb n (t .nodes)) (λ _. any-evalF ps (storeOf s
 -- ---- rows
 
 module _ (ps : List ℕ) (m : MachineKind) (t : Table) where
-  abbrev MoveRegular : Move → Type 0
+  abbrev pub MoveRegular : Move → Type 0
   MoveRegular (to s) = Regular ps m t s
   MoveRegular (stop e) = Unit {0}
 
@@ -338,7 +338,7 @@ module _ (ps : List ℕ) (m : MachineKind) (t : Table) where
     keeps-row classLoop f = keeps-bind (any-node ps t s uint _) (λ x _. keeps-bind (any-node ps t s uint _) (λ y _. keeps-loop s R (s .row) classLoop f x y (any-out (s .row))))
     keeps-row noRow f = keeps-wrong
 
-    keeps-step : Keeps MoveRegular (step ps t s)
+    pub keeps-step : Keeps MoveRegular (step ps t s)
     unfolding step
     keeps-step = keeps-row (rowKind (rowAt t (s .row) .kind)) (rows-fit m t A (s .row) h)
 
