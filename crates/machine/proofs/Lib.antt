@@ -5,3 +5,4 @@ pub mod NodeLaws
 pub mod FreshLaws
 pub mod RecordLaws
 pub mod RunLaws
+pub mod GoingLaws
