@@ -1,8 +1,8 @@
 #!/usr/bin/env python3
 """Writes stdin and stdout of this program: cases of files, each after its length, and what must be printed of each.
 
-Run as: make_cases.py VECTORS, the folder with cases.bin and index.txt. The first cases are worked out here, by hand, from document 01;
-the others are the vectors that are refused, with their output, and the shorter ones that are not, which pass.
+Run as: make_cases.py VECTORS, the folder of vectors for `pairrun`, cases.bin and index.txt, which is handed out beside document 01. The
+first cases are worked out here, by hand, from document 01; the others are the vectors that are refused, with their output, and the shorter ones that are not, which pass.
 """
 import pathlib
 import struct
@@ -55,8 +55,8 @@ def worst():
 CASES = []
 
 
-def case(data, expected, c1=1, c2=3):
-    CASES.append((words(c1, c2, 100) + data, expected))
+def case(data, expected, c1=1, c2=3, limit=100):
+    CASES.append((words(c1, c2, limit) + data, expected))
 
 
 def passes(lines, **pair):
@@ -65,6 +65,11 @@ def passes(lines, **pair):
 
 def refused(lines, number, place, **pair):
     case(blocks(lines), "refused %d line %d" % (number, place), **pair)
+
+
+def reduced(lines, expected):
+    """A reduced table, which the program knows by the limit."""
+    case(blocks(lines), expected, limit=BIG)
 
 
 # the file
@@ -130,6 +135,25 @@ refused([(2, 1, 0, 0), (17, 0, 0, 0), (33, 0, 0, 0)], 12, 2)
 refused([(2, 1, 0, 0), (17, 0, 0, 0), (33, 0, 0, 0), (39, 1, 0, 0)], 7, 3)
 refused([(17, 0, 1, 0), (99, 0, 0, 0)], 5, 1)
 refused([SKIP, END], 11, 1, c1=5, c2=5)
+# reduced tables: kinds, and marks that the reduction would not give
+U, MU, P, MP, C = (2, 0, 0, 0), (2, 1, 0, 0), (3, 0, 0, 0), (3, 1, 0, 0), (17, 1, 0, 0)
+reduced([P, (16, 0, 0, 0), (28, 0, 0, 0), (29, 0, 0, 0), (40, 0, 1, 0)], "passes reduced")
+reduced([P, (16, 0, 0, 0), (19, 0, 0, 0)], "refused 5 line 2")
+reduced([P, (16, 0, 0, 0), (26, 0, 0, 0)], "refused 5 line 2")
+reduced([P, (16, 0, 0, 0), C, (34, 0, 1, 0)], "refused 5 line 3")
+reduced([(28, 0, 0, 0)], "refused 8 line 0")
+reduced([MU, (27, 0, 0, 0)], "passes reduced")
+reduced([MU, (16, 0, 0, 0)], "refused 12 line 1")
+reduced([U, (27, 0, 0, 0)], "refused 12 line 1")
+reduced([MP, (27, 0, 0, 0)], "refused 12 line 1")
+reduced([MP, C, (41, 0, 0, 0)], "passes reduced")
+reduced([MP, C, (37, 0, 0, 0)], "refused 12 line 2")
+reduced([P, C, (41, 0, 0, 0)], "refused 12 line 2")
+reduced([MU, C, (42, 0, 0, 0), END], "passes reduced")
+reduced([MU, C, (38, 0, 0, 0), END], "refused 12 line 2")
+reduced([U, C, (42, 0, 0, 0), END], "refused 12 line 2")
+reduced([MU, C, (33, 0, 0, 0)], "refused 12 line 2")
+reduced([P, C, (42, 0, 0, 0), END], "refused 9 line 2")
 # the pair
 refused(T, 13, 0, c1=1, c2=2)
 refused(T, 13, 0, c1=3, c2=1)
@@ -150,6 +174,8 @@ for line in (vectors / "index.txt").read_text().splitlines():
     assert n == int(length)
     bytes_ = data[at + 4 : at + 4 + n]
     at += 4 + n
+    if n >= 12 and struct.unpack_from("<I", bytes_, 8)[0] == BIG:
+        continue
     if not output.startswith("refused"):
         if n > 2000:
             continue

@@ -69,7 +69,19 @@ fn reduced_passes(words: &[u32], c1: u32, c2: u32, lent: &mut [u32], file: &[u8]
     }
 }
 
-fn read(file: &[u8], c1: u32, c2: u32) {
+// What the reduced checks say of a table.
+fn checked_reduced(words: &[u32]) {
+    let r = table::check_table(words, true);
+    match r {
+        table::Verdict::Refused(number, place) => refused(number, place as u64),
+        table::Verdict::Passes => {
+            io::write_all(1, b"passes reduced\n");
+        }
+    }
+}
+
+// A limit of 2^32 - 1 stands for a file that holds a reduced table.
+fn read(file: &[u8], c1: u32, c2: u32, limit: u32) {
     let mut words = [0u32; TABLE];
     let r = file::read_file(file, &mut words);
     match r {
@@ -78,7 +90,11 @@ fn read(file: &[u8], c1: u32, c2: u32) {
             let end = 4 * (n as usize);
             let mut lent = [0u32; TABLE];
             if end <= TABLE {
-                reduced_passes(&words[..end], c1, c2, &mut lent[..end], file);
+                if limit == 4294967295 {
+                    checked_reduced(&words[..end]);
+                } else {
+                    reduced_passes(&words[..end], c1, c2, &mut lent[..end], file);
+                }
             }
         }
     }
@@ -89,7 +105,7 @@ fn report(s: &[u8]) {
         refused(1, 0);
         return;
     }
-    read(&s[12..], word(s, 0), word(s, 4));
+    read(&s[12..], word(s, 0), word(s, 4), word(s, 8));
 }
 
 // Reads a case into a lent buffer as long as it: whether it was there.

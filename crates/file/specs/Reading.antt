@@ -57,7 +57,7 @@ abbrev pub refusedAt : ℕ → Found → Read → Read
 refusedAt number (At k) rest = Refused number k
 refusedAt number Nothing rest = rest
 
--- the answer, for a buffer of so many words: 1, 2, 3, then 14, "words .. not the stated size" (R12), else the number of lines
+-- the answer (R1, R4), for a buffer of so many words: 1, 2, 3, then 14, "words .. not the stated size" (R12), else the number of lines
 unfoldable pub readAnswer : List ℕ → ℕ → Read
 readAnswer bs room =
     if wrongLength (length bs) then Refused 1 0 else

@@ -41,7 +41,7 @@ WrittenReadsBack =
     (w : List ℕ) → AllBelow (2 ^ 32) w → (out : List ℕ) (n : ℕ) → writeAnswer w (length out) ≡ Bytes n → (buffer : List ℕ) → length buffer ≡ 5248
     → (readAnswer (take n (writeBuffer w out)) (length buffer) ≡ Lines (lines w)) × (readBuffer (take n (writeBuffer w out)) buffer ≡ padded 5248 w)
 
--- "a read file whose table passes is written again byte for byte"
+-- demand 2: "a read file whose table passes is written again byte for byte"
 abbrev pub ReadIsWrittenAgain : Type 0
 ReadIsWrittenAgain =
     (bs : List ℕ) → AllBelow 256 bs → (buffer : List ℕ) (n : ℕ) → readAnswer bs (length buffer) ≡ Lines n

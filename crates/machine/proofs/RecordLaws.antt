@@ -25,6 +25,7 @@ use Rattle.model.proofs.ClassLaws.{pair-class}
 use Rattle.model.proofs.Nested.{from}
 use Rattle.model.proofs.ReduceLaws.{and-left, and-right}
 use Rattle.model.proofs.Typing.{not-true}
+use Rattle.machine.specs.Promises.{CanFits, FitsCan, FitsRegular}
 use Rattle.machine.specs.Record.{arraysFit, classHeld, holdsClass, inSequence, kindsFit, loopsAround, ofTheType, placesOf, recordFits, rowWithin, sameNumbers, startsWithin, variableFits, variablesFit}
 
 -- ---- lists
@@ -184,8 +185,8 @@ module _ (m : MachineKind) (c1 c2 : ℕ) (t : Table) (s : State) where
     kind-plain P e = kinds-fit (s .arrays) (subst (λ (k : MachineKind). kindsFit k (s .arrays) ≡ true) e (P .kinds))
 
     -- 15 passing gives what demand 3 asks
-    pub fits-can : recordFits m c1 c2 t s ≡ true → CanHave (placesOf m c1 c2) m t s
-    fits-can e =
+    can-have : recordFits m c1 c2 t s ≡ true → CanHave (placesOf m c1 c2) m t s
+    can-have e =
         let P : Parts m c1 c2 t s = parts e in
         record {
           row = leb-true (s .row) (t .rows) (P .row);
@@ -206,8 +207,8 @@ module _ (m : MachineKind) (c1 c2 : ℕ) (t : Table) (s : State) where
         go plain q c v g w = absurd (false≢true w)
         go reduced q c v g w = let n = held-by c1 c2 (ok q) fits c g in (n .0, n .1, v ∙ ap Class (sym (n .2)))
 
-    pub fits-regular : recordFits m c1 c2 t s ≡ true → Regular (placesOf m c1 c2) m t s
-    fits-regular e =
+    is-regular : recordFits m c1 c2 t s ≡ true → Regular (placesOf m c1 c2) m t s
+    is-regular e =
         let P : Parts m c1 c2 t s = parts e in
         record { started = starts-within (s .loops) (P .starts); classes = class-number P; few = leb-true (length (s .arrays)) mostArrays (P .few) }
 
@@ -223,8 +224,8 @@ module _ (m : MachineKind) (c1 c2 : ℕ) (t : Table) (s : State) where
         go k q false e v r = rw e (holds-type (length (s .arrays)) (typeAt t i) (getD (s .vars) i (Uint 0)) (rw e at v))
 
     -- and the other way round
-    pub can-fits : CanHave (placesOf m c1 c2) m t s → Regular (placesOf m c1 c2) m t s → recordFits m c1 c2 t s ≡ true
-    can-fits C R = whole (record {
+    all-fits : CanHave (placesOf m c1 c2) m t s → Regular (placesOf m c1 c2) m t s → recordFits m c1 c2 t s ≡ true
+    all-fits C R = whole (record {
       row = le-leb (s .row) (t .rows) (C .row);
       loops = subst (λ (l : List ℕ). sameNumbers (map (λ (l : Loop). l .row) (s .loops)) l ≡ true) (C .loops) (same-itself (map (λ (l : Loop). l .row) (s .loops)));
       starts = starts-all (s .loops) (R .started);
@@ -235,3 +236,12 @@ module _ (m : MachineKind) (c1 c2 : ℕ) (t : Table) (s : State) where
       room = le-leb (used (placesOf m c1 c2) (s .arrays)) (length (s .cells)) (C .laid .room);
       kinds = kinds-all m (s .arrays) (C .plainArrays);
     })
+
+pub fits-can : FitsCan
+fits-can m c1 c2 t s ok fits = can-have m c1 c2 t s ok fits
+
+pub fits-regular : FitsRegular
+fits-regular m c1 c2 t s ok fits = is-regular m c1 c2 t s ok fits
+
+pub can-fits : CanFits
+can-fits m c1 c2 t s ok fits = all-fits m c1 c2 t s ok fits

@@ -3,3 +3,4 @@ pub mod View
 pub mod Leaves
 pub mod Fresh
 pub mod Record
+pub mod Promises

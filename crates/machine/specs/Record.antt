@@ -1,11 +1,10 @@
 -- Check 15: a continued record that the table can't have, condition by condition in document 01's order, of the state that the record
 -- holds (R24 to R27). A slot that is not in use is no part of the state.
-use mathlib.Core.Path.{_≡_}
-use Prim.Native.Nat.{ℕ, zero, suc, _+_}
-use mathlib.Core.Bool.{Bool, true, false, not, _&&_, _||_}
+use Prim.Native.Nat.{ℕ, _+_}
+use mathlib.Core.Bool.{Bool, true, false, not, _&&_}
 use mathlib.Core.List.{List, [], _∷_, map}
 use lib.ListN.{length, getD}
-use lib.Dec.{ltb, leb, eqb}
+use lib.Dec.{leb, eqb}
 use Rattle.lists.specs.If.{if_then_else_}
 use Rattle.lists.specs.Tab.{all}
 use Rattle.model.specs.Class.{pair}
@@ -50,7 +49,7 @@ holdsClass c1 c2 (Uint n) = false
 holdsClass c1 c2 (Class k) = classHeld c1 c2 k
 holdsClass c1 c2 (Pointer r p) = false
 
--- "a variable not of its type", "a pointer to no such array"; there are so many arrays
+-- "a variable not of its type", "a pointer to no such array" (a place may be any, R18, R25); there are so many arrays
 abbrev pub ofTheType : ℕ → Ty → Value → Bool
 ofTheType count bool (Truth b) = true
 ofTheType count bool (Uint n) = false
@@ -71,6 +70,7 @@ variableFits m c1 c2 t s i =
     then holdsClass c1 c2 (getD (s .vars) i (Uint 0))
     else ofTheType (length (s .arrays)) (typeAt t i) (getD (s .vars) i (Uint 0))
 
+-- (that there are as many as declarations is so of every record)
 abbrev pub variablesFit : MachineKind → ℕ → ℕ → Table → State → Bool
 variablesFit m c1 c2 t s = eqb (length (s .vars)) (t .decls) && all (t .decls) (variableFits m c1 c2 t s)
 
@@ -86,7 +86,7 @@ kindsFit m [] = true
 kindsFit plain (r ∷ rs) = not (r .reduced) && kindsFit plain rs
 kindsFit reduced (r ∷ rs) = kindsFit reduced rs
 
--- "more than 16 arrays, arrays not in sequence, past the cells, ...; a reduced array in a plain record"
+-- "more than 16 arrays, arrays not in sequence, past the cells" (4,096 or 4,112 of them, by 14; R27)
 abbrev pub arraysFit : MachineKind → ℕ → ℕ → State → Bool
 arraysFit m c1 c2 s =
     leb (length (s .arrays)) mostArrays

@@ -24,7 +24,8 @@ fn start_number(t: &[u32], f: Frame, i: usize) -> u32
 }
 
 impl Machine {
-    // The record of a fresh run: at row 0, with no open loop and no array, and each variable as it starts.
+    // The record of a fresh run: at row 0, with no open loop and no array, and each variable as it starts. What the slots that are not in
+    // use hold is no part of it. For the runs, which see to what is required here.
     pub fn fresh(t: &[u32], f: Frame) -> Machine
         requires { ⌜ f .decls ≤ 32 ⌝ }
         ensures { λ r. ⌜ (r .row ≡ 0) × (r .open ≡ 0) × (r .count ≡ 0) × (varsOf (now (t .entry)) f (r .numbers) (r .bases) ≡ freshVars (now (t .entry)) f) ⌝ }

@@ -9,8 +9,8 @@ mod nodes;
 mod variables;
 
 // The record: the row; the open loops, outermost first, each with its row, start and end; the variables, each with a number and, for a
-// pointer, its array counted from 1 (0 for none); the arrays, each with its first cell, its true length and its shape, 1 for a reduced one.
-// Slots past the open loops, the declarations or the arrays in use are no part of it.
+// pointer, its array counted from 1 (0 for none); the arrays, each with its first cell, its true length and its shape, 1 for a reduced one
+// and any other for a plain one. Slots past the open loops, the declarations or the arrays in use are no part of it.
 pub struct Machine {
     pub row: u32,
     pub open: u32,

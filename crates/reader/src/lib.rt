@@ -41,11 +41,13 @@ fn followed(c: Choice, at: usize) -> Choice
     }
 }
 
+// The list, and where the next choice stands in it.
 pub struct Reader<'a> {
     list: &'a [u32],
     at: usize,
 }
 
+// A reader of a list, at a cursor.
 pub fn new<'a>(list: &'a [u32], at: usize) -> Reader<'a>
     ensures { λ r. ⌜ (r .list ≡ list .entry) × (r .at ≡ at) ⌝ }
 {

@@ -1,9 +1,9 @@
 -- The checks of a table as one answer: refused by the first number, in order, that a line breaks, at the first line that breaks it.
-use Prim.Native.Nat.{ℕ, zero, suc, _+_, _-_, _/_, _%_}
-use mathlib.Core.Bool.{Bool, true, false, not, _&&_, _||_}
+use Prim.Native.Nat.{ℕ, _/_, _%_}
+use mathlib.Core.Bool.{Bool, true, false}
 use mathlib.Core.List.{List, [], _∷_}
 use lib.ListN.{length}
-use lib.Dec.{ltb, leb, eqb}
+use lib.Dec.{eqb}
 use Rattle.lists.specs.If.{if_then_else_}
 use Rattle.lists.specs.First.{first}
 use Rattle.lists.specs.declared.Found.{Found}
@@ -28,11 +28,11 @@ breaks k m t i =
     else (if eqb k 12 then breaks12 m t i
     else false)))))))
 
--- "Tested in this order, each over the whole input"
+-- "Tested in this order, each over the whole input" (R1)
 abbrev pub order : List ℕ
 order = 5 ∷ 6 ∷ 7 ∷ 8 ∷ 9 ∷ 10 ∷ 11 ∷ 12 ∷ []
 
--- "the place is the first that breaks it"
+-- "the place is the first that breaks it" (R1, R2)
 abbrev pub refusedAt : Found → ℕ → Verdict → Verdict
 refusedAt (At line) k rest = Refused k line
 refusedAt Nothing k rest = rest

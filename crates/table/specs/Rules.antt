@@ -1,6 +1,6 @@
 -- The rules 5 to 12 of a table's line (document 01, "Refusals by checking place"): line i breaks the rule.
 -- What demand 3 needs of them is said in the model (specs/Accepted), and is used from there.
-use Prim.Native.Nat.{ℕ, zero, suc, _+_, _-_, max}
+use Prim.Native.Nat.{ℕ, _+_, _-_, max}
 use mathlib.Core.Bool.{Bool, true, false, not, _&&_, _||_}
 use mathlib.Core.List.{List}
 use lib.ListN.{length}

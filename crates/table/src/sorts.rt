@@ -12,7 +12,7 @@ fn one_if(b: bool) -> usize
     if b { 1 } else { 0 }
 }
 
-// The counts of a table's whole lines.
+// The counts of a table's whole lines. Public for the machines.
 pub fn counts_of(words: &[u32]) -> Counts
     ensures { λ r. ⌜ r ≡ countsOf (now (words .entry)) ⌝ }
     ensures { λ r. ⌜ (r .decls ≤ length (now (words .entry)) / 4) × (r .nodes ≤ length (now (words .entry)) / 4) ⌝ }
