@@ -1,12 +1,19 @@
-// The machine: its record by value, and the evaluators that work out a node from the record's columns.
+// The machine: its record by value, and the evaluators that work out a node from the record's columns, and its rows.
 mod answers;
 mod arrays;
+mod assigns;
 mod choices;
 mod evaluators;
 mod frame;
 mod fresh;
+mod loops;
+mod news;
 mod nodes;
+mod rows;
+mod steps;
+mod tests;
 mod variables;
+mod writes;
 
 // The record: the row; the open loops, outermost first, each with its row, start and end; the variables, each with a number and, for a
 // pointer, its array counted from 1 (0 for none); the arrays, each with its first cell, its true length and its shape, 1 for a reduced one

@@ -1,0 +1,23 @@
+-- By the variant.
+-- Assumes nothing.
+use borrow.Author.Needs.{needs}
+use Rattle.machine.proofs.writes.outcome_of.Statement.{statement}
+use Rattle.machine.proofs.writes.outcome_of.Tie as tie
+
+returns-2 : tie.Need-returns-2
+returns-2 c = rw (c .before .x .given .1)
+
+pub outcome-of-spec : {M : Type 1} → statement M
+outcome-of-spec =
+    tie.close
+    (tie.spec
+    (λ c. search needs)
+    (λ c. search needs)
+    (λ c. search needs)
+    (λ c. search needs)
+    (λ c. search needs)
+    (λ c. search needs)
+    returns-2
+    (λ c. search needs)
+    (λ c. search needs)
+    (λ c. search needs))

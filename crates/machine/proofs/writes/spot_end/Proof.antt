@@ -1,0 +1,16 @@
+-- By the variant of the answer.
+-- Assumes nothing.
+use Rattle.machine.proofs.RowLaws.{other-spot}
+use borrow.Author.Needs.{needs}
+use Rattle.machine.proofs.writes.spot_end.Statement.{statement}
+use Rattle.machine.proofs.writes.spot_end.Tie as tie
+
+returns : tie.Need-returns
+returns c = rw (c .before .x .given .1)
+
+returns-4 : tie.Need-returns-4
+returns-4 c = other-spot (c .before .args .x) (c .match .keys4)
+
+pub spot-end-spec : {M : Type 1} → statement M
+spot-end-spec =
+    tie.close (tie.spec (λ c. search needs) (λ c. search needs) (λ c. search needs) returns (λ c. search needs) (λ c. search needs) returns-4)
