@@ -11,3 +11,4 @@ pub mod FreshLaws
 pub mod RecordLaws
 pub mod RunLaws
 pub mod GoingLaws
+pub mod ReadyLaws

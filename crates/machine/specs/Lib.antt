@@ -9,3 +9,4 @@ pub mod Steps
 pub mod Fresh
 pub mod Record
 pub mod Promises
+pub mod Runs

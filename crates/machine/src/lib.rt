@@ -10,6 +10,7 @@ mod loops;
 mod news;
 mod nodes;
 mod rows;
+mod runs;
 mod steps;
 mod tests;
 mod variables;

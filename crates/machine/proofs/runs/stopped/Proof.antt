@@ -1,0 +1,50 @@
+-- By the outcome.
+-- Assumes nothing.
+use native.Mathlib.Numerals.{add-one}
+use Rattle.machine.proofs.ReadyLaws.{other-stop}
+use borrow.Author.Needs.{needs}
+use Rattle.machine.proofs.runs.stopped.Statement.{statement}
+use Rattle.machine.proofs.runs.stopped.Tie as tie
+
+returns : tie.Need-returns
+returns c = rw (c .before .o .given .1, add-one)
+
+returns-2 : tie.Need-returns-2
+returns-2 c = rw (c .before .o2 .given .1, add-one)
+
+returns-3 : tie.Need-returns-3
+returns-3 c = rw (c .before .o3 .given .1, add-one)
+
+returns-4 : tie.Need-returns-4
+returns-4 c = rw (c .before .o4 .given .1, add-one)
+
+returns-5 : tie.Need-returns-5
+returns-5 c = rw (c .enum-told .given .1)
+
+returns-6 : tie.Need-returns-6
+returns-6 c = rw (c .enum-told2 .given .1)
+
+returns-7 : tie.Need-returns-7
+returns-7 c = let g = c .before .args in other-stop (g .o) (g .steps) (g .at) (g .machine) (c .match .keys7)
+
+pub stopped-spec : {M : Type 1} → statement M
+stopped-spec =
+    tie.close
+    (tie.spec
+    (λ c. search needs)
+    (λ c. search needs)
+    (λ c. search needs)
+    (λ c. search needs)
+    (λ c. search needs)
+    (λ c. search needs)
+    (λ c. search needs)
+    (λ c. search needs)
+    (λ c. search needs)
+    (λ c. search needs)
+    returns
+    returns-2
+    returns-3
+    returns-4
+    returns-5
+    returns-6
+    returns-7)

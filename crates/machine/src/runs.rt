@@ -1,0 +1,117 @@
+// The loop of a run: steps until an end, or until the limit.
+use crate::Machine;
+use crate::frame::Frame;
+use crate::rows::Outcome;
+ghost use mathlib.Core.Path.{_≡_};
+ghost use Prim.Native.Nat.{_<_};
+ghost use Rattle.model.specs.Step.{run};
+ghost use Rattle.model.specs.Demand3.{Numbers};
+ghost use Rattle.machine.specs.View.{places, tableFor, stateOf};
+ghost use Rattle.machine.specs.Runs.{Ready, reportOf, stoppedOf};
+
+// The ends of document 01 but for "list full", which is the choice writer's.
+pub enum End {
+    Done,
+    AssertFalse,
+    AssumeFalse,
+    Fail,
+    WantOfCells,
+    OutOfSteps,
+    ChoiceNotAllowed,
+    NoChoiceLeft,
+}
+
+// What a run hands back, beside the cells: its end, the steps, the choices used, and the record.
+pub struct Ran {
+    pub end: End,
+    pub steps: u32,
+    pub used: usize,
+    pub machine: Machine,
+}
+
+// A row that did not go on, after so many steps, with the next choice at a place.
+fn stopped(o: Outcome, steps: u32, at: usize, machine: Machine) -> Ran
+    requires { ⌜ steps < 4294967295 ⌝ }
+    ensures { λ r. ⌜ r ≡ stoppedOf o steps at machine ⌝ }
+{
+    match o {
+        Outcome::AssertFalse(next) => Ran {
+            end: End::AssertFalse,
+            steps: steps + 1,
+            used: next,
+            machine,
+        },
+        Outcome::AssumeFalse(next) => Ran {
+            end: End::AssumeFalse,
+            steps: steps + 1,
+            used: next,
+            machine,
+        },
+        Outcome::WantOfCells(next) => Ran {
+            end: End::WantOfCells,
+            steps: steps + 1,
+            used: next,
+            machine,
+        },
+        Outcome::Fails(next) => Ran {
+            end: End::Fail,
+            steps: steps + 1,
+            used: next,
+            machine,
+        },
+        Outcome::BadChoice => Ran {
+            end: End::ChoiceNotAllowed,
+            steps,
+            used: at,
+            machine,
+        },
+        Outcome::NoChoice => Ran {
+            end: End::NoChoiceLeft,
+            steps,
+            used: at,
+            machine,
+        },
+        _ => Ran {
+            end: End::Fail,
+            steps,
+            used: at,
+            machine,
+        },
+    }
+}
+
+impl Machine {
+    // A run from the record on. For the public runs, which see to what is required here.
+    pub fn run(mut self, t: &[u32], cells: &mut [u32], list: &[u32], f: Frame, limit: u32) -> Ran
+        requires { ⌜ Ready (now t) f self (now cells) ⌝ }
+        requires { ⌜ Numbers (now list) ⌝ }
+        ensures { λ r. ⌜ reportOf (now (t .entry)) f (now (list .entry)) r (now (cells .exit)) ≡ run (places f) (tableFor (now (t .entry)) f) limit 0 (stateOf (now (t .entry)) f self (now (cells .entry))) (now (list .entry)) ⌝ }
+    {
+        let mut at: usize = 0;
+        let mut steps: u32 = 0;
+        while (self.row as usize) < f.rows {
+            if steps == limit {
+                return Ran {
+                    end: End::OutOfSteps,
+                    steps,
+                    used: at,
+                    machine: self,
+                };
+            }
+            let s = self.step(t, cells, list, f, at);
+            let o = s.outcome;
+            self = s.machine;
+            let Outcome::Goes(next) = o else {
+                return stopped(o, steps, at, self);
+            };
+            at = next;
+            steps = steps + 1;
+        }
+        Ran {
+            end: End::Done,
+            steps,
+            used: at,
+            machine: self,
+        }
+    }
+}
