@@ -7,7 +7,7 @@ ghost use Prim.Native.Nat.{_<_};
 ghost use Rattle.model.specs.Step.{run};
 ghost use Rattle.model.specs.Demand3.{Numbers};
 ghost use Rattle.machine.specs.View.{places, tableFor, stateOf};
-ghost use Rattle.machine.specs.Runs.{Ready, reportOf, stoppedOf};
+ghost use Rattle.machine.specs.Runs.{Ready, reportOf, ran, stoppedOf};
 
 // The ends of document 01 but for "list full", which is the choice writer's.
 pub enum End {
@@ -29,54 +29,31 @@ pub struct Ran {
     pub machine: Machine,
 }
 
+// An end after so many steps, with the next choice at a place.
+fn ran_to(end: End, steps: u32, at: usize, machine: Machine) -> Ran
+    ensures { λ r. ⌜ r ≡ ran end steps at machine ⌝ }
+{
+    Ran {
+        end,
+        steps,
+        used: at,
+        machine,
+    }
+}
+
 // A row that did not go on, after so many steps, with the next choice at a place.
 fn stopped(o: Outcome, steps: u32, at: usize, machine: Machine) -> Ran
     requires { ⌜ steps < 4294967295 ⌝ }
     ensures { λ r. ⌜ r ≡ stoppedOf o steps at machine ⌝ }
 {
     match o {
-        Outcome::AssertFalse(next) => Ran {
-            end: End::AssertFalse,
-            steps: steps + 1,
-            used: next,
-            machine,
-        },
-        Outcome::AssumeFalse(next) => Ran {
-            end: End::AssumeFalse,
-            steps: steps + 1,
-            used: next,
-            machine,
-        },
-        Outcome::WantOfCells(next) => Ran {
-            end: End::WantOfCells,
-            steps: steps + 1,
-            used: next,
-            machine,
-        },
-        Outcome::Fails(next) => Ran {
-            end: End::Fail,
-            steps: steps + 1,
-            used: next,
-            machine,
-        },
-        Outcome::BadChoice => Ran {
-            end: End::ChoiceNotAllowed,
-            steps,
-            used: at,
-            machine,
-        },
-        Outcome::NoChoice => Ran {
-            end: End::NoChoiceLeft,
-            steps,
-            used: at,
-            machine,
-        },
-        _ => Ran {
-            end: End::Fail,
-            steps,
-            used: at,
-            machine,
-        },
+        Outcome::AssertFalse(next) => ran_to(End::AssertFalse, steps + 1, next, machine),
+        Outcome::AssumeFalse(next) => ran_to(End::AssumeFalse, steps + 1, next, machine),
+        Outcome::WantOfCells(next) => ran_to(End::WantOfCells, steps + 1, next, machine),
+        Outcome::Fails(next) => ran_to(End::Fail, steps + 1, next, machine),
+        Outcome::BadChoice => ran_to(End::ChoiceNotAllowed, steps, at, machine),
+        Outcome::NoChoice => ran_to(End::NoChoiceLeft, steps, at, machine),
+        _ => ran_to(End::Fail, steps, at, machine),
     }
 }
 

@@ -22,8 +22,15 @@ fn row_word(t: &[u32], f: Frame, row: u32, i: usize) -> u32
 }
 
 impl Machine {
-    // One step of a run.
-    pub fn step(self, t: &[u32], cells: &mut [u32], list: &[u32], f: Frame, at: usize) -> Stepped
+    // One step of a run. For `run`, which sees to what is required here.
+    pub fn step(
+        mut self,
+        t: &[u32],
+        cells: &mut [u32],
+        list: &[u32],
+        f: Frame,
+        at: usize,
+    ) -> Stepped
         requires { ⌜ Within (now t) f self (now cells) ⌝ }
         ensures { λ r. ⌜ moveOut (now (t .entry)) f (r .machine) (now (cells .exit)) (now (list .entry)) (r .outcome) ≡ step (places f) (tableFor (now (t .entry)) f) (stateOf (now (t .entry)) f self (now (cells .entry))) (drop at (now (list .entry))) ⌝ }
         ensures { λ r. ⌜ Unmoved (r .outcome) (r .machine) self (now (cells .exit)) (now (cells .entry)) ⌝ }
