@@ -1,10 +1,10 @@
 -- The loop of a run: what is left of the run is all of it, from where the record stands.
 -- Assumes nothing.
 use mathlib.Core.Path.{_≡_, refl, sym, ap, _∙_, subst}
-use Prim.Native.Nat.{ℕ, zero, suc, _+_, _-_, _≤_, _<_}
+use Prim.Native.Nat.{ℕ, zero, suc, _+_, _-_, _^_, _≤_, _<_}
 use native.Mathlib.Omega.{arith as numbers}
 use mathlib.Core.List.{List, [], _∷_}
-use lib.ListN.{length, drop}
+use lib.ListN.{length, drop, getD}
 use types.Run.{OneOf, miss}
 use denote.Enum.Declared.{tagOf}
 use Rattle.model.specs.Work.{Out}
@@ -29,10 +29,12 @@ use Rattle.machine.specs.Runs.{Ready, reportOf, ran, stoppedOf}
 use Rattle.machine.proofs.RunLaws.{Going, going-on, never, run-done, run-out, run-next}
 use Rattle.machine.proofs.GoingLaws.{arrays-most, bools-small, loops-most, loops-room}
 
-pub numbers-left : (k : ℕ) (l : List ℕ) → Numbers l → Numbers (drop k l)
-numbers-left zero l h = h
+-- a list each of whose words is one of 32 bits, from place k on
+pub numbers-left : (k : ℕ) (l : List ℕ) → ((i : ℕ) → getD l i 0 < 2 ^ 32) → Numbers (drop k l)
+numbers-left zero [] h = tt
+numbers-left zero (x ∷ l) h = (omega (numbers, h 0), numbers-left zero l (λ i. h (suc i)))
 numbers-left (suc k) [] h = tt
-numbers-left (suc k) (x ∷ l) h = numbers-left k l (h .1)
+numbers-left (suc k) (x ∷ l) h = numbers-left k l (λ i. h (suc i))
 
 -- what stands for an outcome that is no end
 pub other-stop : (o : Outcome) (n at : ℕ) (m : Machine) → OneOf (0 ∷ 7 ∷ []) (tagOf outcome o) → ran Code.Fail n at m ≡ stoppedOf o n at m

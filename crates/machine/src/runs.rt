@@ -5,7 +5,6 @@ use crate::rows::Outcome;
 ghost use mathlib.Core.Path.{_≡_};
 ghost use Prim.Native.Nat.{_<_};
 ghost use Rattle.model.specs.Step.{run};
-ghost use Rattle.model.specs.Demand3.{Numbers};
 ghost use Rattle.machine.specs.View.{places, tableFor, stateOf};
 ghost use Rattle.machine.specs.Runs.{Ready, reportOf, ran, stoppedOf};
 
@@ -61,7 +60,6 @@ impl Machine {
     // A run from the record on. For the public runs, which see to what is required here.
     pub fn run(mut self, t: &[u32], cells: &mut [u32], list: &[u32], f: Frame, limit: u32) -> Ran
         requires { ⌜ Ready (now t) f self (now cells) ⌝ }
-        requires { ⌜ Numbers (now list) ⌝ }
         ensures { λ r. ⌜ reportOf (now (t .entry)) f (now (list .entry)) r (now (cells .exit)) ≡ run (places f) (tableFor (now (t .entry)) f) limit 0 (stateOf (now (t .entry)) f self (now (cells .entry))) (now (list .entry)) ⌝ }
     {
         let mut at: usize = 0;

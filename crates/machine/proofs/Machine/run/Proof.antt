@@ -16,7 +16,7 @@ abbrev μ-loop : tie.MeasureT-loop
 μ-loop self₀ t cells₀ list f limit at₀ steps₀ self cells at steps = limit - steps
 
 loop-holds : tie.Need-loop-holds Inv-loop μ-loop
-loop-holds c = let g = c .before .before .before .args in (left-all (g .t .now) (g .f) (g .list .now) (g .limit) (g .self) (g .cells .now) (c .before .before .before .pre .0), refl)
+loop-holds c = let g = c .before .before .before .args in (left-all (g .t .now) (g .f) (g .list .now) (g .limit) (g .self) (g .cells .now) (c .before .before .before .pre), refl)
 
 returns : tie.Need-returns Inv-loop μ-loop
 returns c = let g = c .before .before .before .before .before .before .before .before .args in let head = c .before .before .before .before .loop in let inside : head .self .row < g .f .rows = omega (arith, c .before .if1 .taken) in left-out (g .t .now) (g .f) (g .list .now) (g .limit) (g .self) (g .cells .now) (head .self) (head .cells) (head .at) (head .steps) (head .inv .0) inside (search needs)
@@ -28,7 +28,7 @@ stopped-requires : tie.Need-stopped-requires Inv-loop μ-loop
 stopped-requires c κs = let g = c .before .before .before .before .before .before .before .before .before .before .before .before .before .before .args in let head = c .before .before .before .before .before .before .before .before .before .before .loop in let u : head .steps < g .limit = omega (arith, head .inv .0 .upto, c .before .before .before .before .before .before .if2 .left) in omega (arith, u, c .before .before .before .before .before .before .before .before .before .before .before .before .before .before .fits)
 
 returns-2 : tie.Need-returns-2 Inv-loop μ-loop
-returns-2 c = let g = c .before .before .before .before .before .before .before .before .before .before .before .before .before .before .before .args in let head = c .before .before .before .before .before .before .before .before .before .before .before .loop in let inside : head .self .row < g .f .rows = omega (arith, c .before .before .before .before .before .before .before .before .if1 .taken) in let u : head .steps < g .limit = omega (arith, head .inv .0 .upto, c .before .before .before .before .before .before .before .if2 .left) in left-stop (g .t .now) (g .f) (g .list .now) (g .limit) (g .self) (g .cells .now) (head .self) (head .cells) (head .at) (head .steps) (head .inv .0) inside u (numbers-left (head .at) (g .list .now) (c .before .before .before .before .before .before .before .before .before .before .before .before .before .before .before .pre .1)) _ _ _ (c .before .before .before .before .before .step .ensures .0) (c .before .before .before .before .before .step .ensures .1) (c .before .match .keys2) _ (c .stopped .ensures)
+returns-2 c = let g = c .before .before .before .before .before .before .before .before .before .before .before .before .before .before .before .args in let head = c .before .before .before .before .before .before .before .before .before .before .before .loop in let inside : head .self .row < g .f .rows = omega (arith, c .before .before .before .before .before .before .before .before .if1 .taken) in let u : head .steps < g .limit = omega (arith, head .inv .0 .upto, c .before .before .before .before .before .before .before .if2 .left) in left-stop (g .t .now) (g .f) (g .list .now) (g .limit) (g .self) (g .cells .now) (head .self) (head .cells) (head .at) (head .steps) (head .inv .0) inside u (numbers-left (head .at) (g .list .now) (λ i. omega (arith, c .before .before .before .before .before .before .before .before .before .before .before .before .shared-slice-known2 .given i))) _ _ _ (c .before .before .before .before .before .step .ensures .0) (c .before .before .before .before .before .step .ensures .1) (c .before .match .keys2) _ (c .stopped .ensures)
 
 add-steps : tie.Need-add-steps Inv-loop μ-loop
 add-steps c = let g = c .before .before .before .before .before .before .before .before .before .before .before .before .before .before .before .before .args in let head = c .before .before .before .before .before .before .before .before .before .before .before .before .loop in let u : head .steps < g .limit = omega (arith, head .inv .0 .upto, c .before .before .before .before .before .before .before .before .if2 .left) in omega (arith, u, c .before .before .before .before .before .before .before .before .before .before .before .before .before .before .before .before .fits)
@@ -37,7 +37,7 @@ loop-less : tie.Need-loop-less Inv-loop μ-loop
 loop-less c = let g = c .before .before .before .before .before .before .before .before .before .before .before .before .before .before .before .before .args in let head = c .before .before .before .before .before .before .before .before .before .before .before .before .loop in let u : head .steps < g .limit = omega (arith, head .inv .0 .upto, c .before .before .before .before .before .before .before .before .if2 .left) in omega arith
 
 loop-again : tie.Need-loop-again Inv-loop μ-loop
-loop-again c = let g = c .before .before .before .before .before .before .before .before .before .before .before .before .before .before .before .before .args in let head = c .before .before .before .before .before .before .before .before .before .before .before .before .loop in let inside : head .self .row < g .f .rows = omega (arith, c .before .before .before .before .before .before .before .before .before .if1 .taken) in let u : head .steps < g .limit = omega (arith, head .inv .0 .upto, c .before .before .before .before .before .before .before .before .if2 .left) in (left-again (g .t .now) (g .f) (g .list .now) (g .limit) (g .self) (g .cells .now) (head .self) (head .cells) (head .at) (head .steps) (head .inv .0) inside u (numbers-left (head .at) (g .list .now) (c .before .before .before .before .before .before .before .before .before .before .before .before .before .before .before .before .pre .1)) _ _ _ _ (c .before .before .before .before .before .before .step .ensures .0) (c .before .o .given .1) (c .before .before .before .before .before .before .step .kept .1 .1 .0), (c .before .before .before .before .before .before .step .kept .1 .1 .0) ∙ head .inv .1)
+loop-again c = let g = c .before .before .before .before .before .before .before .before .before .before .before .before .before .before .before .before .args in let head = c .before .before .before .before .before .before .before .before .before .before .before .before .loop in let inside : head .self .row < g .f .rows = omega (arith, c .before .before .before .before .before .before .before .before .before .if1 .taken) in let u : head .steps < g .limit = omega (arith, head .inv .0 .upto, c .before .before .before .before .before .before .before .before .if2 .left) in (left-again (g .t .now) (g .f) (g .list .now) (g .limit) (g .self) (g .cells .now) (head .self) (head .cells) (head .at) (head .steps) (head .inv .0) inside u (numbers-left (head .at) (g .list .now) (λ i. omega (arith, c .before .before .before .before .before .before .before .before .before .before .before .before .before .shared-slice-known2 .given i))) _ _ _ _ (c .before .before .before .before .before .before .step .ensures .0) (c .before .o .given .1) (c .before .before .before .before .before .before .step .kept .1 .1 .0), (c .before .before .before .before .before .before .step .kept .1 .1 .0) ∙ head .inv .1)
 
 returns-3 : tie.Need-returns-3 Inv-loop μ-loop
 returns-3 c = let g = c .before .before .before .before .before .before .before .args in let head = c .before .before .before .loop in let past : g .f .rows ≤ head .self .row = omega (arith, c .if1 .left) in left-done (g .t .now) (g .f) (g .list .now) (g .limit) (g .self) (g .cells .now) (head .self) (head .cells) (head .at) (head .steps) (head .inv .0) past
