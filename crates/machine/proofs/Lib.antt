@@ -12,3 +12,4 @@ pub mod RecordLaws
 pub mod RunLaws
 pub mod GoingLaws
 pub mod ReadyLaws
+pub mod StartLaws

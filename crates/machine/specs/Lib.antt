@@ -10,3 +10,4 @@ pub mod Fresh
 pub mod Record
 pub mod Promises
 pub mod Runs
+pub mod Starts

@@ -11,6 +11,7 @@ mod news;
 mod nodes;
 mod rows;
 mod runs;
+mod starts;
 mod steps;
 mod tests;
 mod variables;
