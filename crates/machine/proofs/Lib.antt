@@ -13,3 +13,4 @@ pub mod RunLaws
 pub mod GoingLaws
 pub mod ReadyLaws
 pub mod StartLaws
+pub mod PlainLaws

@@ -11,3 +11,4 @@ pub mod Record
 pub mod Promises
 pub mod Runs
 pub mod Starts
+pub mod Answers
