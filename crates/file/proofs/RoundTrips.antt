@@ -1,24 +1,20 @@
 -- The round trips of the public reader and writer.
 -- Assumes nothing.
-use Prim.Native.Nat.{ℕ, _+_, _*_, _/_, _%_, _^_, _<_, _≤_}
+use Prim.Native.Nat.{ℕ, _*_, _%_, _≤_}
 use native.Mathlib.Omega.{arith}
 use mathlib.Core.Path.{_≡_, refl, sym, ap, _∙_, subst}
-use mathlib.Core.Bool.{Bool, true, false}
 use mathlib.Core.List.{List}
 use lib.ListN.{length, take}
-use lib.Dec.{eqb}
-use borrow.Author.Tests.{eqb-true, eq-eqb}
+use borrow.Author.Tests.{eq-eqb}
 use Rattle.table.specs.declared.Verdict.{Verdict}
 use Rattle.table.specs.declared.Verdict.the-variants.{Passes, Refused}
 use Rattle.file.specs.declared.Read.the-variants.{Lines}
-use Rattle.file.specs.declared.Written.{Written}
 use Rattle.file.specs.declared.Written.the-variants.{Bytes}
-use Rattle.lists.specs.If.{if_then_else_}
 use Rattle.lists.specs.Tab.{padded}
 use Rattle.model.specs.State.MachineKind.{plain}
-use Rattle.table.specs.Checks.{tableCheck, andThen, sizeCheck}
+use Rattle.table.specs.Checks.{tableCheck, sizeCheck}
 use Rattle.table.proofs.Sizes.{sizes}
-use Rattle.table.proofs.Passing.{Passing, passing}
+use Rattle.table.proofs.Passing.{Passing, passing, both-pass}
 use Rattle.file.specs.Layout.{fileBytes, lines}
 use Rattle.file.specs.Reading.{readAnswer, readBuffer}
 use Rattle.file.specs.Writing.{filledAs, writeAnswer, writeBuffer, writeCheck, writtenAs}
@@ -33,18 +29,6 @@ passing-short w e =
     let P : Passing plain w = passing plain w e in
     let s = sizes plain w (P .whole) (P .none5) (P .none6) in
     (P .whole, omega (arith, P .whole, s .0, s .1, s .2, s .3))
-
--- both parts of a check pass
-both-pass : (a b : Verdict) → andThen a b ≡ Passes → (a ≡ Passes) × (b ≡ Passes)
-both-pass Passes b e = (refl, e)
-both-pass (Refused number place) b e = absurd (let z : _≡_ {A = ℕ} 0 1 = cc in omega arith)
-
-size-passes : (size stated : ℕ) → sizeCheck size stated ≡ Passes → size ≡ stated
-size-passes size stated e = go (eqb size stated) refl e
-  where
-    go : (b : Bool) → eqb size stated ≡ b → (if b then Passes else Refused 14 0) ≡ Passes → size ≡ stated
-    go true u h = eqb-true size stated u
-    go false u h = absurd (let z : _≡_ {A = ℕ} 0 1 = cc in omega arith)
 
 -- an answer with bytes is that of a table that passes, and of a buffer of the stated size
 wrote : (v : Verdict) (k n : ℕ) → writtenAs v k ≡ Bytes n → (v ≡ Passes) × (k ≡ n)

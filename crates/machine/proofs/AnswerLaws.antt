@@ -3,14 +3,14 @@
 use Prim.Native.Nat.{ℕ}
 use mathlib.Core.Path.{_≡_, refl, sym, ap, _∙_}
 use mathlib.Core.List.{List, [], _∷_}
-use mathlib.Core.Bool.{Bool, true, false}
+use mathlib.Core.Bool.{Bool}
 use lib.ListN.{drop}
 use types.Run.{OneOf, miss}
 use denote.Enum.Declared.{tagOf}
 use Rattle.lists.specs.If.{if_then_else_}
 use Rattle.model.specs.Table.{Ty}
 use Rattle.model.specs.Table.Ty.{bool, uint, pointer}
-use Rattle.model.specs.Work.{Out, Work, next, _>>=_, give}
+use Rattle.model.specs.Work.{Out, Work, next, give}
 use Rattle.model.specs.Work.Out.{gives, fails, badChoice, noChoice, stuck}
 use Rattle.model.specs.State.{Array}
 use Rattle.model.specs.Eval.{Of, Ptr, ptr}

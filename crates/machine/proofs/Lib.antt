@@ -1,4 +1,4 @@
--- The theory of the machines: laws of the view, of answers and of nodes, by which the evaluators are proved; of rows and a step; of check 15; and of runs.
+-- The theory of the machines: laws of the view, of answers and of nodes, by which the evaluators are proved; of rows, of a step and of a fresh record.
 pub mod ViewLaws
 pub mod AnswerLaws
 pub mod NodeLaws
@@ -8,9 +8,3 @@ pub mod LoopLaws
 pub mod NewLaws
 pub mod StepLaws
 pub mod FreshLaws
-pub mod RecordLaws
-pub mod RunLaws
-pub mod GoingLaws
-pub mod ReadyLaws
-pub mod StartLaws
-pub mod PlainLaws

@@ -1,6 +1,6 @@
 -- Laws of nodes: what an evaluator gives by the node that it read, in the form in which `search answers` takes them.
 -- Assumes nothing.
-use Prim.Native.Nat.{ℕ, zero, suc, _<_, _≤_}
+use Prim.Native.Nat.{ℕ, _<_, _≤_}
 use native.Mathlib.Omega.{arith as numbers}
 use mathlib.Core.Path.{_≡_, refl, sym, ap, subst, _∙_}
 use mathlib.Core.List.{List, [], _∷_}
@@ -18,13 +18,12 @@ use Rattle.model.specs.Work.{Out, Work, next, _>>=_, give, wrong}
 use Rattle.model.specs.Work.Out.{gives, fails, badChoice, noChoice, stuck}
 use Rattle.model.specs.Eval.{Of, Ptr, ptr, sumOrDifference, compare, ofType, bools, uints, variableOf, present, below, rule, eval}
 use Rattle.model.proofs.EvalLaws.{eval-is}
-use Rattle.machine.proofs.answers.Answer.{the-type as answer}
 use Rattle.machine.proofs.nodes.Node.{the-type as node}
 use Rattle.machine.specs.declared.nodes.Node.{Node as Taken}
 use Rattle.machine.specs.declared.nodes.Node.the-variants.{Variable, Constant, Flag, Cell, Arith, Compare, If, Valid, InClass, Nothing}
 use Rattle.machine.specs.declared.answers.Answer.{Answer}
-use Rattle.machine.specs.declared.answers.Answer.the-variants.{Bool as ABool, Uint as AUint, Pointer as APointer, Fails, BadChoice, NoChoice, Stuck}
-use Rattle.machine.specs.View.{places, outOf, failingOf, Lent, varsIn, arraysIn, storeIn, tableIn, operand, Holds}
+use Rattle.machine.specs.declared.answers.Answer.the-variants.{Bool as ABool, Uint as AUint, Stuck}
+use Rattle.machine.specs.View.{places, outOf, Lent, varsIn, arraysIn, storeIn, tableIn, operand, Holds}
 use Rattle.machine.specs.Leaves.{heldFor, classIn, loadOf, readOf, arith, movedBy, validIn, testOf, decoded, nodeIn}
 use Rattle.machine.proofs.ViewLaws.{count-arrays}
 use Rattle.machine.proofs.AnswerLaws.{followed, branch, tested, right-id, anew-uint, lost-uint, branch-uint, branch-no-uint, branch-pointer, branch-no-pointer, branch-bool, branch-no-bool, then-uint, then-pointer, then-bool, else-uint, else-pointer, else-bool, says-arith, says-moved, says-valid, says-tested}

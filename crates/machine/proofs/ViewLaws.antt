@@ -7,7 +7,7 @@ use native.Mathlib.Nat.{not-suc-le-zero}
 use native.Mathlib.Numerals.{add-one}
 use mathlib.Core.Path.{_≡_, refl, sym, ap, _∙_}
 use mathlib.Core.Logic.{_≢_}
-use mathlib.Core.List.{List, [], _∷_, _++_}
+use mathlib.Core.List.{List, [], _∷_}
 use mathlib.Core.Bool.{Bool, true, false}
 use lib.ListN.{length, getD, drop, replicate, getD-replicate, List·getD-append, List·getD-eq-default}
 use lib.Seq.{drop-cons}
@@ -16,29 +16,27 @@ use borrow.Author.Tests.{lt-ltb, le-ltb, le-leb, lt-leb, ne-eqb}
 use types.Run.{OneOf, miss}
 use denote.Enum.Declared.{tagOf}
 use Rattle.lists.specs.If.{if_then_else_}
-use Rattle.lists.specs.Tab.{tab}
 use Rattle.lists.proofs.TabLaws.{length-tab, at-tab}
+use Rattle.table.specs.Checks.{machineOf}
 use Rattle.model.specs.Class.{class}
-use Rattle.model.specs.Table.{Ty, Node, nodeKind, nodeKinds, typeOf, marked, markedUint}
+use Rattle.model.specs.Table.{Ty, nodeKind, nodeKinds, typeOf, marked, markedUint}
 use Rattle.model.specs.Table.Ty.{bool, uint, pointer}
 use Rattle.model.specs.Table.Node.{variable, uintConstant, boolConstant, cell, plus, minus, less, atMost, equal, conditional, valid, classVariable, reducedCell, reducedValid, noNode}
-use Rattle.model.specs.Work.{Out, Work, next, _>>=_, give, fail, wrong, choose}
-use Rattle.model.specs.Work.Out.{gives, fails, badChoice, noChoice, stuck}
-use Rattle.model.specs.State.{MachineKind, Value, Array, classed}
-use Rattle.model.specs.State.MachineKind.{plain, reduced}
+use Rattle.model.specs.Work.{next, give, choose}
+use Rattle.model.specs.Work.Out.{gives, stuck}
+use Rattle.model.specs.State.{Array, classed}
 use Rattle.model.specs.State.Value.{Truth, Uint, Class, Pointer}
-use Rattle.model.specs.Eval.{Of, Ptr, ptr, ofType, asClass, variableOf, arrayOf, noArray, present, keeps, cellOf}
+use Rattle.model.specs.Eval.{ofType, asClass, variableOf, arrayOf, noArray, present}
 use Rattle.machine.proofs.variables.Sort.{the-type as sort}
 use Rattle.machine.specs.declared.frame.Frame.{Frame}
 use Rattle.reader.specs.declared.Choice.{Choice}
 use Rattle.reader.specs.declared.Choice.the-variants.{Is, NoneLeft}
 use Rattle.machine.specs.declared.answers.Answer.{Answer}
-use Rattle.machine.specs.declared.answers.Answer.the-variants.{Bool as ABool, Uint as AUint, Pointer as APointer, Fails, BadChoice, NoChoice, Stuck}
+use Rattle.machine.specs.declared.answers.Answer.the-variants.{Bool as ABool, Uint as AUint, Pointer as APointer, BadChoice, NoChoice, Stuck}
 use Rattle.machine.specs.declared.variables.Sort.{Sort}
 use Rattle.machine.specs.declared.variables.Sort.the-variants.{Bool as SBool, Uint as SUint, Class as SClass, Pointer as SPointer}
-use Rattle.machine.specs.declared.arrays.Target.{Target}
 use Rattle.machine.specs.declared.arrays.Target.the-variants.{Array as To, Missing, Unknown}
-use Rattle.machine.specs.View.{kindOf, tableFor, sortFor, sortIn, boolOr, bySort, varsOf, arrayIn, arraysOf, leftOf, outOf, Says, Holds}
+use Rattle.machine.specs.View.{tableFor, sortFor, sortIn, boolOr, bySort, varsOf, arrayIn, arraysOf, leftOf, outOf, Says, Holds}
 use Rattle.machine.specs.Leaves.{heldFor, classIn, targetOut, Points, storedIn, readOf, validIn}
 
 -- ---- kinds
@@ -94,7 +92,7 @@ module _ (t : List ℕ) (f : Frame) (a : ℕ) where
   unfolding sortIn
   unclassed e = go (f .classes)
     where
-      go : (b : Bool) → (if classed (if b then reduced else plain) (tableFor t f) a then SClass else sortFor (typeOf (getD t (4 * a) 0))) ≡ sortFor (typeOf (getD t (4 * a) 0))
+      go : (b : Bool) → (if classed (machineOf b) (tableFor t f) a then SClass else sortFor (typeOf (getD t (4 * a) 0))) ≡ sortFor (typeOf (getD t (4 * a) 0))
       go true = rw e
       go false = refl
 

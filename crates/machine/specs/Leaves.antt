@@ -1,16 +1,16 @@
 -- What the parts of the evaluators say: the model's own definitions, as the code groups them.
 use mathlib.Core.Path.{_≡_}
-use Prim.Native.Nat.{ℕ, zero, suc, _+_, _*_}
+use Prim.Native.Nat.{ℕ, _+_}
 use mathlib.Core.Bool.{Bool, true, false}
-use mathlib.Core.List.{List, [], _∷_}
+use mathlib.Core.List.{List}
 use lib.ListN.{length, getD}
 use lib.Dec.{ltb, leb, eqb}
 use Rattle.lists.specs.If.{if_then_else_}
 use Rattle.model.specs.Class.{class, tracked}
 use Rattle.model.specs.Table.{Ty, Line, lineAt, Node, nodeKind}
 use Rattle.model.specs.Table.Node.{variable, uintConstant, boolConstant, cell, plus, minus, less, atMost, equal, conditional, valid, classVariable, reducedCell, reducedValid, noNode}
-use Rattle.model.specs.Work.{Out, Work, next, _>>=_, give, fail, wrong, choose}
-use Rattle.model.specs.Work.Out.{gives, fails, badChoice, noChoice, stuck}
+use Rattle.model.specs.Work.{Out, Work, _>>=_, give, fail, wrong, choose}
+use Rattle.model.specs.Work.Out.{gives, fails, stuck}
 use Rattle.model.specs.State.{Value, Array}
 use Rattle.model.specs.Eval.{Of, Ptr, ptr, add, subtract, arrayOf, cellOf, keeps, indexOf, variableOf, ofType, isValid, inClass, present}
 use Rattle.machine.specs.declared.frame.Frame.{Frame}

@@ -1,4 +1,4 @@
--- The machines: the view of the record as the model's state, what the parts of the evaluators and of the rows say, and check 15.
+-- The machines: the view of the record as the model's state, and what the parts of the evaluators and of the rows say.
 pub mod View
 pub mod Leaves
 pub mod Rows
@@ -7,8 +7,3 @@ pub mod Loops
 pub mod News
 pub mod Steps
 pub mod Fresh
-pub mod Record
-pub mod Promises
-pub mod Runs
-pub mod Starts
-pub mod Answers

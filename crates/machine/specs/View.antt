@@ -1,17 +1,17 @@
 -- The record, the lent columns and the cursor of the code, seen as the model's state, store and choices.
 use mathlib.Core.Path.{_≡_}
-use Prim.Native.Nat.{ℕ, zero, suc, _+_, _-_}
-use mathlib.Core.Bool.{Bool, true, false}
+use Prim.Native.Nat.{ℕ, suc, _-_}
 use mathlib.Core.List.{List, [], _∷_}
 use lib.ListN.{getD, drop}
 use lib.Dec.{leb, eqb}
 use Rattle.lists.specs.If.{if_then_else_}
 use Rattle.lists.specs.Tab.{tab}
+use Rattle.table.specs.Checks.{machineOf}
 use Rattle.model.specs.Class.{pair}
 use Rattle.model.specs.Table.{Table, Ty, typeAt}
 use Rattle.model.specs.Table.Ty.{bool, uint, pointer}
 use Rattle.model.specs.Work.{Out, Work, give, wrong}
-use Rattle.model.specs.Work.Out.{gives, fails, badChoice, noChoice, stuck}
+use Rattle.model.specs.Work.Out.{fails, badChoice, noChoice, stuck}
 use Rattle.model.specs.State.{MachineKind, Value, Array, Loop, State, classed}
 use Rattle.model.specs.State.MachineKind.{plain, reduced}
 use Rattle.model.specs.State.Value.{Truth, Uint, Class, Pointer}
@@ -27,11 +27,15 @@ use Rattle.machine.specs.declared.variables.Sort.the-variants.{Bool as S
 
 -- ---- the frame: which machine it is, its tracked places, and the table of the words
 abbrev pub kindOf : Frame → MachineKind
-kindOf f = if f .classes then reduced else plain
+kindOf f = machineOf (f .classes)
 
 -- the plain machine tracks no place
+abbrev pub placesOf : MachineKind → ℕ → ℕ → List ℕ
+placesOf plain c1 c2 = []
+placesOf reduced c1 c2 = pair c1 c2
+
 unfoldable pub places : Frame → List ℕ
-places f = if f .classes then pair (f .c1) (f .c2) else []
+places f = placesOf (kindOf f) (f .c1) (f .c2)
 
 abbrev pub tableFor : List ℕ → Frame → Table
 tableFor t f = record { words = t; decls = f .decls; nodes = f .nodes; rows = f .rows }

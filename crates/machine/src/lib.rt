@@ -1,21 +1,18 @@
-// The machine: its record by value, and the evaluators that work out a node from the record's columns, and its rows.
+// The machines: the record by value, the evaluators that work out a node from the record's columns, the rows, and one step.
 mod answers;
 mod arrays;
 mod assigns;
 mod choices;
 mod evaluators;
-mod frame;
+pub mod frame;
 mod fresh;
 mod loops;
-mod news;
+pub mod news;
 mod nodes;
-pub mod plain;
-mod rows;
-pub mod runs;
-mod starts;
+pub mod rows;
 mod steps;
 mod tests;
-mod variables;
+pub mod variables;
 mod writes;
 
 // The record: the row; the open loops, outermost first, each with its row, start and end; the variables, each with a number and, for a

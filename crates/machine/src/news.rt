@@ -19,7 +19,7 @@ ghost use Rattle.machine.specs.Rows.{moveOut, Unmoved};
 ghost use Rattle.machine.specs.News.{sizeFor, usedIn, lacksRoom, arrayRow};
 
 // How many cells an array of a length has.
-fn size_for(f: Frame, len: u32, reduced: bool) -> u32
+pub fn size_for(f: Frame, len: u32, reduced: bool) -> u32
     ensures { λ r. ⌜ r ≡ sizeFor (places f) len reduced ⌝ }
 {
     if reduced {

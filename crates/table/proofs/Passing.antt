@@ -1,10 +1,10 @@
 -- A table that passes the checks is accepted, in the sense in which demand 3 asks it.
 -- Assumes nothing.
-use Prim.Native.Nat.{ℕ, zero, suc, _+_, _-_, _*_, _/_, _%_, _<_, _≤_}
+use Prim.Native.Nat.{ℕ, _+_, _-_, _/_, _%_, _<_, _≤_}
 use native.Mathlib.Omega.{arith}
-use mathlib.Core.Path.{_≡_, refl, sym, ap, _∙_, subst}
-use mathlib.Core.Bool.{Bool, true, false, not, _&&_, _||_, false≢true, true≢false}
-use mathlib.Core.List.{List, [], _∷_}
+use mathlib.Core.Path.{_≡_, refl, ap, subst}
+use mathlib.Core.Bool.{Bool, true, false, not}
+use mathlib.Core.List.{List, _∷_}
 use lib.ListN.{length}
 use lib.Dec.{ltb, leb, eqb}
 use borrow.Author.Tests.{eqb-true, leb-false, ltb-false}
@@ -22,9 +22,21 @@ use Rattle.model.specs.State.{MachineKind}
 use Rattle.model.specs.Step.{node}
 use Rattle.model.specs.Accepted.{Accepted, endsOpen, known, nodeSuitsMark, nodeThere, nodeTyped, noneOpen, rowOpened, rowSuitsMark, rowThere, rowTyped}
 use Rattle.table.specs.Rules.{breaks10, breaks11, breaks12, breaks8, breaks9, depth, mostDepth, mostOpen, nestBreaks, ofNodeOrRow}
-use Rattle.table.specs.Checks.{breaks, firstRefusal, order, refusedAt, tableCheck}
+use Rattle.table.specs.Checks.{andThen, breaks, firstRefusal, order, refusedAt, sizeCheck, tableCheck}
 use Rattle.table.proofs.Sizes.{all-lines, line-known, no-declaration, no-node-at, node-at, not-false, or-left, or-right}
 use Rattle.table.proofs.Closed.{none-open}
+
+-- both parts of a check pass
+pub both-pass : (a b : Verdict) → andThen a b ≡ Passes → (a ≡ Passes) × (b ≡ Passes)
+both-pass Passes b e = (refl, e)
+both-pass (Refused number place) b e = absurd (let z : _≡_ {A = ℕ} 0 1 = cc in omega arith)
+
+pub size-passes : (size stated : ℕ) → sizeCheck size stated ≡ Passes → size ≡ stated
+size-passes size stated e = go (eqb size stated) refl e
+  where
+    go : (b : Bool) → eqb size stated ≡ b → (if b then Passes else Refused 14 0) ≡ Passes → size ≡ stated
+    go true u h = eqb-true size stated u
+    go false u h = absurd (let z : _≡_ {A = ℕ} 0 1 = cc in omega arith)
 
 -- no line breaks the rule of the number
 abbrev pub Unbroken : ℕ → MachineKind → List ℕ → Type 0

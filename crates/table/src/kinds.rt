@@ -99,7 +99,8 @@ pub(crate) fn marking_of(kind: u32) -> u32
     entry_of(kind) / 0x10 % 16
 }
 
-pub(crate) fn nest_of(kind: u32) -> u32
+// 1 for a row that opens a loop, 2 for one that closes it, 0 for any other line.
+pub fn nest_of(kind: u32) -> u32
     ensures { λ r. ⌜ r ≡ nest kind ⌝ }
 {
     entry_of(kind) % 16

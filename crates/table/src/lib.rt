@@ -7,7 +7,7 @@ ghost use Rattle.table.specs.Checks.{tableCheck, machineOf};
 
 pub mod sorts; // sorts.rt: how many lines each sort has
 pub mod loops; // loops.rt: the matching end row, check 11
-mod kinds; // kinds.rt: what each kind of line asks, as numbers
+pub mod kinds; // kinds.rt: what each kind of line asks, as numbers
 mod lines; // lines.rt: checks 5 to 8
 mod types; // types.rt: types of nodes, check 9
 mod depths; // depths.rt: depths of nodes, check 10

@@ -1,6 +1,5 @@
 -- By what the variable holds.
 -- Assumes nothing.
-use mathlib.Core.Path.{_≡_, sym, ap, _∙_}
 use borrow.Author.Needs.{needs}
 use Rattle.machine.specs.Fresh.{startNumber}
 use Rattle.machine.proofs.fresh.start_number.Statement.{statement}

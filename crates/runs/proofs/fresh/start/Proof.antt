@@ -1,0 +1,25 @@
+-- By the fresh state, from which the run is.
+-- Assumes nothing.
+use Rattle.runs.proofs.LendLaws.{few-decls, ready-fresh, reports-fresh}
+use borrow.Author.Needs.{needs}
+use Rattle.runs.proofs.fresh.start.Statement.{statement}
+use Rattle.runs.proofs.fresh.start.Tie as tie
+
+zero-all-requires : tie.Need-zero-all-requires
+zero-all-requires c κs = search needs
+
+fresh-requires : tie.Need-fresh-requires
+fresh-requires c κs = let g = c .before .before .before .before .before .before .before .args in few-decls (g .t .now) (g .f) (g .cells .now) (c .before .before .before .before .before .before .before .pre)
+
+run-from-requires : tie.Need-run-from-requires
+run-from-requires c κs = let g = c .before .before .before .before .before .before .before .before .before .args in ready-fresh (g .t .now) (g .f) (g .cells .now) (c .before .before .before .before .before .before .before .before .before .pre) _ _ (c .before .fresh .ensures .0) (c .before .fresh .ensures .1) (c .before .fresh .ensures .2) (c .before .fresh .ensures .3) (c .before .before .before .before .zero-all .ensures)
+
+same-length : tie.Need-same-length
+same-length c = search needs
+
+returns : tie.Need-returns
+returns c = let g = c .before .before .before .before .before .before .before .before .before .before .before .before .args in reports-fresh (g .t .now) (g .f) (g .cells .now) (c .before .before .before .before .before .before .before .before .before .before .before .before .pre) _ _ (c .before .before .before .before .fresh .ensures .0) (c .before .before .before .before .fresh .ensures .1) (c .before .before .before .before .fresh .ensures .2) (c .before .before .before .before .fresh .ensures .3) (c .before .before .before .before .before .before .before .zero-all .ensures) (g .limit) (g .list .now) _ _ (c .before .before .run-from .ensures)
+
+pub start-spec : {M : Type 1} → statement M
+start-spec =
+    tie.close (tie.spec zero-all-requires fresh-requires run-from-requires same-length returns)

@@ -1,0 +1,28 @@
+-- By whether a loop is left, and whether it is at the row.
+-- Assumes nothing.
+use native.Mathlib.Omega.{arith}
+use Rattle.runs.proofs.RecordCodeLaws.{met-none, met-on, met-off}
+use borrow.Author.Needs.{needs}
+use Rattle.runs.proofs.loops.met.Statement.{statement}
+use Rattle.runs.proofs.loops.met.Tie as tie
+
+returns : tie.Need-returns
+returns c = met-none _ _ _ (c .if1 .taken)
+
+sub-last : tie.Need-sub-last
+sub-last c = search needs
+
+word-or-zero-requires : tie.Need-word-or-zero-requires
+word-or-zero-requires c κs = search needs
+
+cast-if2 : tie.Need-cast-if2
+cast-if2 c = search needs
+
+returns-2 : tie.Need-returns-2
+returns-2 c = met-on _ _ _ (omega (arith, c .before .before .if1 .left)) (c .before .word-or-zero .ensures) (c .if2 .taken)
+
+returns-3 : tie.Need-returns-3
+returns-3 c = met-off _ _ _ (omega (arith, c .before .before .if1 .left)) (c .before .word-or-zero .ensures) (c .if2 .left)
+
+pub met-spec : {M : Type 1} → statement M
+met-spec = tie.close (tie.spec returns sub-last word-or-zero-requires cast-if2 returns-2 returns-3)

@@ -1,0 +1,70 @@
+-- Those so far fit.
+-- Assumes nothing.
+use native.Mathlib.Omega.{arith}
+use Prim.Native.Nat.{_-_, _≤_}
+use mathlib.Core.Path.{_≡_, refl, sym, _∙_}
+use Rattle.runs.proofs.RecordCodeLaws.{Fits, vars-none, vars-next, vars-off, vars-done}
+use borrow.Author.Needs.{needs}
+use Rattle.runs.proofs.records.variables_fit.Statement.{statement}
+use Rattle.runs.proofs.records.variables_fit.Tie as tie
+
+abbrev Inv-loop : tie.InvT-loop
+Inv-loop t cells f m i₀ decls i = (i ≤ f .decls) × (decls ≡ f .decls) × Fits t cells f m i
+
+abbrev μ-loop : tie.MeasureT-loop
+μ-loop t cells f m i₀ decls i = f .decls - i
+
+loop-holds : tie.Need-loop-holds Inv-loop μ-loop
+loop-holds c = let g = c .before .before .args in (omega arith, refl, vars-none (g .t .now) (g .cells .now) (g .f) (g .t4))
+
+sort-at-requires : tie.Need-sort-at-requires Inv-loop μ-loop
+sort-at-requires c κs = search needs
+
+mul-variable-fits : tie.Need-mul-variable-fits Inv-loop μ-loop
+mul-variable-fits c = search needs
+
+element-copy-out-variable-fits : tie.Need-element-copy-out-variable-fits Inv-loop μ-loop
+element-copy-out-variable-fits c = search needs
+
+mul-variable-fits-2 : tie.Need-mul-variable-fits-2 Inv-loop μ-loop
+mul-variable-fits-2 c = search needs
+
+element-copy-out-variable-fits-2 : tie.Need-element-copy-out-variable-fits-2 Inv-loop μ-loop
+element-copy-out-variable-fits-2 c = search needs
+
+variable-fits-requires : tie.Need-variable-fits-requires Inv-loop μ-loop
+variable-fits-requires c κs = search needs
+
+add-i : tie.Need-add-i Inv-loop μ-loop
+add-i c = search needs
+
+loop-less : tie.Need-loop-less Inv-loop μ-loop
+loop-less c = search needs
+
+loop-again : tie.Need-loop-again Inv-loop μ-loop
+loop-again c = let g = c .before .before .before .before .before .before .before .before .before .args in let l = c .before .before .before .before .before .before .loop in (omega arith, l .inv .1, vars-next (g .t .now) (g .cells .now) (g .f) (g .t4) (l .i) (omega arith) (c .before .before .before .before .sort-at .ensures) (l .inv .2) (sym (c .before .variable-fits .ensures) ∙ c .if1 .taken))
+
+returns : tie.Need-returns Inv-loop μ-loop
+returns c = let g = c .before .before .before .before .before .before .before .before .before .args in let l = c .before .before .before .before .before .before .loop in vars-off (g .t .now) (g .cells .now) (g .f) (g .t4) (l .i) (omega arith) (c .before .before .before .before .sort-at .ensures) (sym (c .before .variable-fits .ensures) ∙ c .if1 .left)
+
+returns-2 : tie.Need-returns-2 Inv-loop μ-loop
+returns-2 c = let g = c .before .before .before .before .args in let l = c .before .loop in vars-done (g .t .now) (g .cells .now) (g .f) (g .t4) (l .i) (l .inv .2) (omega arith)
+
+pub variables-fit-spec : {M : Type 1} → statement M
+variables-fit-spec =
+    tie.close
+    (tie.spec
+    Inv-loop
+    μ-loop
+    loop-holds
+    sort-at-requires
+    mul-variable-fits
+    element-copy-out-variable-fits
+    mul-variable-fits-2
+    element-copy-out-variable-fits-2
+    variable-fits-requires
+    add-i
+    loop-less
+    loop-again
+    returns
+    returns-2)

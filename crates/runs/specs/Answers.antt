@@ -1,0 +1,48 @@
+-- What a run says to the user.
+use Prim.Native.Nat.{ℕ}
+use mathlib.Core.List.{List}
+use lib.ListN.{length}
+use Rattle.table.specs.declared.Verdict.{Verdict}
+use Rattle.table.specs.declared.Verdict.the-variants.{Passes, Refused}
+use Rattle.table.specs.Checks.{andThen}
+use Rattle.model.specs.Table.{tableOf}
+use Rattle.model.specs.State.{MachineKind, State, fresh}
+use Rattle.model.specs.Step.{Report, run}
+use Rattle.model.specs.Demand3.{choicesUsed}
+use Rattle.machine.specs.declared.frame.Frame.{Frame}
+use Rattle.machine.specs.View.{placesOf}
+use Rattle.runs.specs.declared.Answered.{Answered}
+use Rattle.runs.specs.Record.{recordCheck}
+use Rattle.runs.specs.Steps.{reportOf}
+use Rattle.runs.specs.Checks.{runChecks}
+
+-- a refusal, with its number and place and the cells at exit; or a run's report, which has end, steps, the record and the cells at exit,
+-- and the choices used
+pub data Said : Type 0 where
+  refusal : ℕ → ℕ → List ℕ → Said
+  reports : Report → ℕ → Said
+
+-- by a verdict
+abbrev pub saidBy : Verdict → List ℕ → Said → Said
+saidBy Passes cells said = said
+saidBy (Refused number place) cells said = refusal number place cells
+
+-- an answer, with the cells at exit and the list of choices l
+abbrev pub saidOf : List ℕ → Frame → List ℕ → Answered → List ℕ → Said
+saidOf t f l a cells = saidBy (a .verdict) cells (reports (reportOf t f l (a .ran) cells) (a .ran .used))
+
+-- a run of the model
+abbrev pub ranSaid : List ℕ → Report → Said
+ranSaid l report = reports report (choicesUsed l report)
+
+-- a fresh run: a refusal leaves the cells as they were lent; a run starts with cells of its own, all zero
+unfoldable pub freshSaid : MachineKind → ℕ → ℕ → List ℕ → List ℕ → List ℕ → ℕ → Said
+freshSaid m c1 c2 t cells l limit =
+    let ps = placesOf m c1 c2 in
+    saidBy (runChecks m c1 c2 t (length cells)) cells (ranSaid l (run ps (tableOf t) limit 0 (fresh ps m (tableOf t)) l))
+
+-- a run from the state s, which has the record and the lent cells: 15 comes last
+unfoldable pub continuedSaid : MachineKind → ℕ → ℕ → List ℕ → State → List ℕ → ℕ → Said
+continuedSaid m c1 c2 t s l limit =
+    let v = andThen (runChecks m c1 c2 t (length (s .cells))) (recordCheck m c1 c2 (tableOf t) s) in
+    saidBy v (s .cells) (ranSaid l (run (placesOf m c1 c2) (tableOf t) limit 0 s l))

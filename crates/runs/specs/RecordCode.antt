@@ -1,0 +1,53 @@
+-- What the parts of check 15 say in code: the loops around a row by a walk back from it, a variable by its sort, an array by the place where
+-- it must start.
+use mathlib.Core.Path.{_≡_}
+use Prim.Native.Nat.{ℕ, zero, suc, _≤_}
+use mathlib.Core.Bool.{Bool, true, false, not, _&&_, _||_}
+use mathlib.Core.List.{List, [], _∷_}
+use lib.ListN.{getD, drop}
+use lib.Dec.{leb, eqb}
+use Rattle.lists.specs.If.{if_then_else_}
+use Rattle.machine.specs.declared.frame.Frame.{Frame}
+use Rattle.machine.specs.declared.variables.Sort.{Sort}
+use Rattle.machine.specs.declared.variables.Sort.the-variants.{Bool as SBool, Uint as SUint, Class as SClass, Pointer as SPointer}
+use Rattle.runs.specs.declared.loops.Walk.{Walk}
+use Rattle.runs.specs.declared.loops.Walk.the-variants.{On, Differs}
+use Rattle.runs.specs.Record.{sameNumbers, classHeld}
+
+-- ---- the loops: the rows of the first n, innermost first
+unfoldable pub rowsOf : ℕ → List ℕ → List ℕ
+rowsOf zero rows = []
+rowsOf (suc n) rows = getD rows n 0 ∷ rowsOf n rows
+
+-- the open loops after row i, which nests by a number, from those before it
+abbrev pub nestedBy : ℕ → ℕ → List ℕ → List ℕ
+nestedBy nest i os = if eqb nest 1 then i ∷ os else (if eqb nest 2 then drop 1 os else os)
+
+-- row i opens a loop, with n of the record's left
+unfoldable pub metBy : List ℕ → ℕ → ℕ → Walk
+metBy rows zero i = Differs
+metBy rows (suc n) i = if eqb (getD rows n 0) i then On 0 n else Differs
+
+-- where the walk stands, before the loops os: the record has those that are not closed again
+abbrev pub walkOut : List ℕ → Walk → List ℕ → Bool
+walkOut rows (On closed left) os = sameNumbers (rowsOf left rows) (drop closed os)
+walkOut rows Differs os = false
+
+abbrev pub closedIn : Walk → ℕ
+closedIn (On closed left) = closed
+closedIn Differs = 0
+
+pub record Walks (rows : List ℕ) (nest closed left i : ℕ) (r : Walk) : Type 0 where
+  pub most : closedIn r ≤ suc closed
+  pub walked : (os : List ℕ) → walkOut rows r os ≡ sameNumbers (rowsOf left rows) (drop closed (nestedBy nest i os))
+
+-- ---- a variable, with so many arrays in the record
+abbrev pub fitsBySort : Frame → ℕ → Sort → ℕ → ℕ → Bool
+fitsBySort f count SBool x base = leb x 1
+fitsBySort f count SUint x base = true
+fitsBySort f count SClass x base = classHeld (f .c1) (f .c2) x
+fitsBySort f count SPointer x base = leb base count
+
+-- ---- an array, which must start at `from`
+abbrev pub arrayFits : Frame → ℕ → ℕ → Bool → Bool
+arrayFits f start from reduced = eqb start from && (f .classes || not reduced)

@@ -1,0 +1,64 @@
+-- What the loop of a run is lent, and what it hands back, seen as the model's report.
+use mathlib.Core.Path.{_≡_}
+use Prim.Native.Nat.{ℕ, suc, _<_, _≤_}
+use mathlib.Core.List.{List}
+use lib.ListN.{length, drop}
+use Rattle.model.specs.Table.{nestAt, openAt}
+use Rattle.model.specs.Table.Nest.{opens}
+use Rattle.model.specs.Step.{Report, End as ModelEnd}
+use Rattle.model.specs.Step.End.{done, assertFalse, assumeFalse, failed, wantOfCells, outOfSteps, choiceNotAllowed, noChoiceLeft}
+use Rattle.model.specs.Step.Report.{ended}
+use Rattle.model.specs.Accepted.{Accepted, CanHave, Regular}
+use Rattle.table.specs.Code.{Laid}
+use Rattle.machine.specs.declared.Machine.{Machine}
+use Rattle.machine.specs.declared.frame.Frame.{Frame}
+use Rattle.machine.specs.declared.rows.Outcome.{Outcome}
+use Rattle.machine.specs.declared.rows.Outcome.the-variants.{Goes, AssertFalse, AssumeFalse, WantOfCells, Fails, BadChoice, NoChoice, Stuck}
+use Rattle.runs.specs.declared.End.{End}
+use Rattle.runs.specs.declared.End.the-variants as Code
+use Rattle.runs.specs.declared.Ran.{Ran}
+use Rattle.machine.specs.View.{places, kindOf, tableFor, stateOf}
+
+-- a table that passes its checks, and a record that 15 does not refuse
+pub record Ready (t : List ℕ) (f : Frame) (m : Machine) (cells : List ℕ) : Type 0 where
+  pub accepted : Accepted (kindOf f) (tableFor t f)
+  pub laid : Laid (tableFor t f)
+  pub few : (r : ℕ) → r < f .rows → nestAt (tableFor t f) r ≡ opens → length (openAt (tableFor t f) r) < 8
+  pub can : CanHave (places f) (kindOf f) (tableFor t f) (stateOf t f m cells)
+  pub regular : Regular (places f) (kindOf f) (tableFor t f) (stateOf t f m cells)
+  pub room : length cells ≤ 4294967295
+
+-- the ends, each the model's
+abbrev pub endOf : End → ModelEnd
+endOf Code.Done = done
+endOf Code.AssertFalse = assertFalse
+endOf Code.AssumeFalse = assumeFalse
+endOf Code.Fail = failed
+endOf Code.WantOfCells = wantOfCells
+endOf Code.OutOfSteps = outOfSteps
+endOf Code.ChoiceNotAllowed = choiceNotAllowed
+endOf Code.NoChoiceLeft = noChoiceLeft
+
+-- end, steps, the record with the cells, and the choices left
+abbrev pub reportOf : List ℕ → Frame → List ℕ → Ran → List ℕ → Report
+reportOf t f l r cells = ended (endOf (r .end)) (r .steps) (stateOf t f (r .machine) cells) (drop (r .used) l)
+
+abbrev pub ran : End → ℕ → ℕ → Machine → Ran
+ran e n at m = record { end = e; steps = n; used = at; machine = m }
+
+-- A row that does not go on, after n steps, with the next choice at `at`: "A step that ends a run counts"; "The last three ends don't count
+-- their step or its choices." (R13) No step of a run is stuck, so what stands there is never handed back.
+abbrev pub stoppedOf : Outcome → ℕ → ℕ → Machine → Ran
+stoppedOf (Goes next) n at m = ran Code.Fail n at m
+stoppedOf (AssertFalse next) n at m = ran Code.AssertFalse (suc n) next m
+stoppedOf (AssumeFalse next) n at m = ran Code.AssumeFalse (suc n) next m
+stoppedOf (WantOfCells next) n at m = ran Code.WantOfCells (suc n) next m
+stoppedOf (Fails next) n at m = ran Code.Fail (suc n) next m
+stoppedOf BadChoice n at m = ran Code.ChoiceNotAllowed n at m
+stoppedOf NoChoice n at m = ran Code.NoChoiceLeft n at m
+stoppedOf Stuck n at m = ran Code.Fail n at m
+
+-- what a run hands back is a report, and the choices used are numbers of the list
+pub record Reports (t : List ℕ) (f : Frame) (l : List ℕ) (r : Ran) (cells : List ℕ) (said : Report) : Type 0 where
+  pub report : reportOf t f l r cells ≡ said
+  pub within : r .used ≤ length l

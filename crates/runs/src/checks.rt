@@ -1,0 +1,101 @@
+// What every run checks of what it is lent: the table, the pair, the size of the cells. And the frame of a table, and a refusal.
+use crate::Answered;
+use crate::End;
+use crate::Ran;
+use machine::Machine;
+use machine::frame::Frame;
+use reduction::check_pair;
+use table::Verdict;
+use table::check_table;
+use table::sorts::counts_of;
+ghost use mathlib.Core.Path.{_≡_};
+ghost use lib.ListN.{length};
+ghost use Rattle.table.specs.Checks.{machineOf, sizeCheck};
+ghost use Rattle.model.specs.State.{cellCount};
+ghost use Rattle.runs.specs.Checks.{frameOf, pairFor, runChecks};
+
+// The frame of a table, for the machine with these places.
+pub fn frame_of(t: &[u32], classes: bool, c1: u32, c2: u32) -> Frame
+    ensures { λ r. ⌜ r ≡ frameOf (now (t .entry)) classes c1 c2 ⌝ }
+{
+    let c = counts_of(t);
+    Frame {
+        c1,
+        c2,
+        classes,
+        decls: c.decls,
+        nodes: c.nodes,
+        rows: c.rows,
+    }
+}
+
+// 13, of the reduced machine.
+fn pair_for(classes: bool, c1: u32, c2: u32) -> Verdict
+    ensures { λ r. ⌜ r ≡ pairFor (machineOf classes) c1 c2 ⌝ }
+{
+    if classes {
+        return check_pair(c1, c2);
+    }
+    Verdict::Passes
+}
+
+// How many cells a machine has.
+fn cells_of(classes: bool) -> usize
+    ensures { λ r. ⌜ r ≡ cellCount (machineOf classes) ⌝ }
+{
+    if classes {
+        return Machine::REDUCED_CELLS;
+    }
+    Machine::PLAIN_CELLS
+}
+
+// 14, of so many cells.
+fn check_size(size: usize, stated: usize) -> Verdict
+    ensures { λ r. ⌜ r ≡ sizeCheck size stated ⌝ }
+{
+    if size == stated {
+        return Verdict::Passes;
+    }
+    Verdict::Refused(14, 0)
+}
+
+// 4 to 12, 13 and 14, in that order.
+pub fn check_run(t: &[u32], cells: &[u32], classes: bool, c1: u32, c2: u32) -> Verdict
+    ensures { λ r. ⌜ r ≡ runChecks (machineOf classes) c1 c2 (now (t .entry)) (length (now (cells .entry))) ⌝ }
+{
+    let table = check_table(t, classes);
+    let Verdict::Passes = table else {
+        return table;
+    };
+    let pair = pair_for(classes, c1, c2);
+    let Verdict::Passes = pair else {
+        return pair;
+    };
+    check_size(cells.len(), cells_of(classes))
+}
+
+// A refusal.
+pub fn refused(verdict: Verdict) -> Answered
+    ensures { λ r. ⌜ r .verdict ≡ verdict ⌝ }
+{
+    let machine = Machine {
+        row: 0,
+        open: 0,
+        loop_rows: [0; 8],
+        starts: [0; 8],
+        ends: [0; 8],
+        numbers: [0; 32],
+        bases: [0; 32],
+        count: 0,
+        firsts: [0; 16],
+        lengths: [0; 16],
+        shapes: [0; 16],
+    };
+    let ran = Ran {
+        end: End::Done,
+        steps: 0,
+        used: 0,
+        machine,
+    };
+    Answered { verdict, ran }
+}

@@ -1,0 +1,100 @@
+// Check 15: whether a table can have a record.
+use crate::loops::loops_around;
+use crate::loops::starts_within;
+use machine::Machine;
+use machine::frame::Frame;
+use machine::news::size_for;
+use machine::variables::Sort;
+use machine::variables::sort_at;
+ghost use mathlib.Core.Path.{_≡_};
+ghost use Prim.Native.Nat.{_≤_};
+ghost use Rattle.table.specs.Code.{Laid};
+ghost use Rattle.machine.specs.View.{kindOf, tableFor, stateOf};
+ghost use Rattle.runs.specs.Record.{classHeld, variablesFit, arraysFit, recordFits};
+ghost use Rattle.runs.specs.RecordCode.{fitsBySort, arrayFits};
+
+// A class is one of the pair's, and some number is in it.
+fn class_held(f: Frame, k: u32) -> bool
+    ensures { λ r. ⌜ r ≡ classHeld (f .c1) (f .c2) k ⌝ }
+{
+    (k <= 4) & (!((k == 0) & (f.c1 == 0)) & !((k == 4) & (f.c2 == 4294967295)))
+}
+
+// A number and a base suit a variable's sort, with so many arrays in the record.
+fn variable_fits(f: Frame, sort: Sort, number: u32, base: u32, count: u32) -> bool
+    ensures { λ r. ⌜ r ≡ fitsBySort f count sort number base ⌝ }
+{
+    match sort {
+        Sort::Bool => number <= 1,
+        Sort::Uint => true,
+        Sort::Class => class_held(f, number),
+        Sort::Pointer => base <= count,
+    }
+}
+
+// Every variable is of its type.
+fn variables_fit(t: &[u32], cells: &[u32], f: Frame, m: Machine) -> bool
+    requires { ⌜ f .decls ≤ 32 ⌝ }
+    ensures { λ r. ⌜ r ≡ variablesFit (kindOf f) (f .c1) (f .c2) (tableFor (now (t .entry)) f) (stateOf (now (t .entry)) f m (now (cells .entry))) ⌝ }
+{
+    let mut i: usize = 0;
+    let decls = f.decls;
+    while i < decls {
+        let sort = sort_at(t, f, i);
+        if variable_fits(f, sort, m.numbers[i], m.bases[i], m.count) {
+            i += 1;
+        } else {
+            return false;
+        }
+    }
+    true
+}
+
+// An array starts where the one before ends, and is of a kind that the machine has.
+fn array_fits(f: Frame, start: u32, from: usize, reduced: bool) -> bool
+    ensures { λ r. ⌜ r ≡ arrayFits f start from reduced ⌝ }
+{
+    (start as usize == from) & (f.classes | !reduced)
+}
+
+// At most 16 arrays, in sequence, within the cells, and none reduced in a plain record.
+fn arrays_fit(t: &[u32], cells: &[u32], f: Frame, m: Machine) -> bool
+    ensures { λ r. ⌜ r ≡ arraysFit (kindOf f) (f .c1) (f .c2) (stateOf (now (t .entry)) f m (now (cells .entry))) ⌝ }
+{
+    if Machine::ARRAYS < m.count {
+        return false;
+    }
+    let n = m.count as usize;
+    let mut from: usize = 0;
+    let mut i: usize = 0;
+    while i < n {
+        let reduced = m.shapes[i] == 1;
+        if array_fits(f, m.firsts[i], from, reduced) {
+            from = from + size_for(f, m.lengths[i], reduced) as usize;
+            i += 1;
+        } else {
+            return false;
+        }
+    }
+    from <= cells.len()
+}
+
+// The table can have the record. For the runs, which see to what is required here.
+pub fn record_fits(t: &[u32], cells: &[u32], f: Frame, m: Machine) -> bool
+    requires { ⌜ Laid (tableFor (now t) f) ⌝ }
+    ensures { λ r. ⌜ r ≡ recordFits (kindOf f) (f .c1) (f .c2) (tableFor (now (t .entry)) f) (stateOf (now (t .entry)) f m (now (cells .entry))) ⌝ }
+{
+    if f.rows < m.row as usize {
+        return false;
+    }
+    if !loops_around(t, cells, f, m) {
+        return false;
+    }
+    if !starts_within(m) {
+        return false;
+    }
+    if !variables_fit(t, cells, f, m) {
+        return false;
+    }
+    arrays_fit(t, cells, f, m)
+}
