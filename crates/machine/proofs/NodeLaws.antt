@@ -190,12 +190,15 @@ bool-stuck e f cs Nothing h = refl
 
 -- a node's answer z, by the node r that was read at its number
 module _ (e : Lent) (l : List ℕ) (n user : ℕ) {r : Taken} where
-  pub any-variable : (w : Ty) (at : ℕ) {z : Answer} {a : ℕ} → n < user → r ≡ nodeIn (e .table) (e .frame) n → r ≡ Variable a → Holds at z (heldFor (varsIn e) (e .count) a) → outOf w l z ≡ operand e w user n (drop at l)
+  -- a variable's node is what the variable holds
+  pub variable-is : (w : Ty) (cs : List ℕ) {a : ℕ} → n < user → r ≡ nodeIn (e .table) (e .frame) n → r ≡ Variable a → heldFor (varsIn e) (e .count) a w cs ≡ operand e w user n cs
   unfolding heldFor
-  any-variable w at {a = a} h read p s =
-      s .held w l
-      ∙ ap (λ (k : ℕ). next ((variableOf (varsIn e) a >>= ofType w) (drop at l)) (present k w)) (sym (count-arrays (e .count) (e .firsts) (e .lengths) (e .shapes)))
-      ∙ at-node e n user h (drop at l) w read p
+  variable-is w cs {a = a} h read p =
+      ap (λ (k : ℕ). next ((variableOf (varsIn e) a >>= ofType w) cs) (present k w)) (sym (count-arrays (e .count) (e .firsts) (e .lengths) (e .shapes)))
+      ∙ at-node e n user h cs w read p
+
+  pub any-variable : (w : Ty) (at : ℕ) {z : Answer} {a : ℕ} → n < user → r ≡ nodeIn (e .table) (e .frame) n → r ≡ Variable a → Holds at z (heldFor (varsIn e) (e .count) a) → outOf w l z ≡ operand e w user n (drop at l)
+  any-variable w at h read p s = s .held w l ∙ variable-is w (drop at l) h read p
 
   module _ (z : Answer) (cs : List ℕ) where
     pub any-if : {a b c : ℕ} (w : Ty) → n < user → r ≡ nodeIn (e .table) (e .frame) n → r ≡ If a b c → outOf w l z ≡ followed w (operand e bool n a cs) (branch e w n b c) → outOf w l z ≡ operand e w user n cs

@@ -1,16 +1,16 @@
 // The machines: the record by value, the evaluators that work out a node from the record's columns, the rows, and one step.
-mod answers;
-mod arrays;
+pub mod answers;
+pub mod arrays;
 mod assigns;
 mod choices;
-mod evaluators;
+pub mod evaluators;
 pub mod frame;
 mod fresh;
 mod loops;
 pub mod news;
-mod nodes;
+pub mod nodes;
 pub mod rows;
-mod steps;
+pub mod steps;
 mod tests;
 pub mod variables;
 mod writes;

@@ -13,7 +13,7 @@ ghost use Rattle.machine.specs.Rows.{moveOut, Unmoved};
 ghost use Rattle.machine.specs.Steps.{Within};
 
 // Word i of a row: its kind or an operand.
-fn row_word(t: &[u32], f: Frame, row: u32, i: usize) -> u32
+pub fn row_word(t: &[u32], f: Frame, row: u32, i: usize) -> u32
     requires { ⌜ (f .decls ≤ 32) × (f .nodes ≤ 1024) × (i ≤ 3) ⌝ }
     ensures { λ r. ⌜ r ≡ getD (now (t .entry)) (4 * (f .decls + f .nodes + row) + i) 0 ⌝ }
 {

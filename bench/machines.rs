@@ -1,0 +1,507 @@
+//! Does in plain Rust what run_cases does for each case of standard input, and prints the same lines. Tables are taken to pass the checks
+//! and runs to have no edits; 13 and 14 are checked, 4 to 12 and 15 are not.
+use std::hint::black_box;
+use std::io::{self, BufWriter, Read, Write};
+
+const ROOM: usize = 262_144;
+const HEAD: usize = 7;
+const FILL: u32 = 7;
+const ARRAYS: usize = 16;
+
+// The table, decoded
+
+#[derive(Clone, Copy)]
+enum Node {
+    Variable(usize),
+    Uint(u32),
+    Bool(bool),
+    Cell(usize),
+    Add(usize, usize),
+    Subtract(usize, usize),
+    Less(usize, usize),
+    LessOrEqual(usize, usize),
+    Equal(usize, usize),
+    If(usize, usize, usize),
+    Valid(usize),
+    Choice(usize),
+}
+
+#[derive(Clone, Copy)]
+enum Row {
+    Skip,
+    Assign(usize, usize),
+    Write(usize, usize),
+    Assert(usize),
+    Assume(usize),
+    New { variable: usize, length: usize, reduced: bool },
+    Loop { iterator: usize, start: usize, end: usize, classes: bool, close: usize },
+    Close,
+}
+
+#[derive(Clone, Copy, PartialEq)]
+enum Type {
+    Bool,
+    Uint,
+    Pointer,
+}
+
+struct Declaration {
+    sort: Type,
+    marked: bool,
+}
+
+struct Table {
+    variables: Vec<Declaration>,
+    nodes: Vec<Node>,
+    rows: Vec<Row>,
+}
+
+fn node(&[kind, a, b, c]: &[u32; 4]) -> Node {
+    let (x, y, z) = (a as usize, b as usize, c as usize);
+    match kind {
+        16 => Node::Variable(x),
+        17 => Node::Uint(a),
+        18 => Node::Bool(a == 1),
+        19 | 28 => Node::Cell(x),
+        20 => Node::Add(x, y),
+        21 => Node::Subtract(x, y),
+        22 => Node::Less(x, y),
+        23 => Node::LessOrEqual(x, y),
+        24 => Node::Equal(x, y),
+        25 => Node::If(x, y, z),
+        26 | 29 => Node::Valid(x),
+        _ => Node::Choice(x),
+    }
+}
+
+fn row(&[kind, a, b, c]: &[u32; 4], close: usize) -> Row {
+    let (x, y, z) = (a as usize, b as usize, c as usize);
+    match kind {
+        32 => Row::Skip,
+        33 => Row::Assign(x, y),
+        34 | 40 => Row::Write(x, y),
+        35 => Row::Assert(x),
+        36 => Row::Assume(x),
+        37 | 41 => Row::New { variable: x, length: y, reduced: kind == 41 },
+        38 | 42 => Row::Loop { iterator: x, start: y, end: z, classes: kind == 42, close },
+        _ => Row::Close,
+    }
+}
+
+/// The row that closes each row's loop; the row itself where it opens none.
+fn closes(rows: &[[u32; 4]]) -> Vec<usize> {
+    let mut closes: Vec<usize> = (0..rows.len()).collect();
+    let mut open = Vec::new();
+    for (r, line) in rows.iter().enumerate() {
+        match line[0] {
+            38 | 42 => open.push(r),
+            39 => closes[open.pop().expect("an open loop")] = r,
+            _ => {}
+        }
+    }
+    closes
+}
+
+fn decode(words: &[u32]) -> Table {
+    let (lines, _) = words.as_chunks::<4>();
+    let (variables, lines) = lines.split_at(lines.iter().take_while(|l| l[0] <= 3).count());
+    let (nodes, rows) = lines.split_at(lines.iter().take_while(|l| l[0] <= 29).count());
+    let sort = |kind| match kind {
+        1 => Type::Bool,
+        2 => Type::Uint,
+        _ => Type::Pointer,
+    };
+    Table {
+        variables: variables.iter().map(|l| Declaration { sort: sort(l[0]), marked: l[1] == 1 }).collect(),
+        nodes: nodes.iter().map(node).collect(),
+        rows: rows.iter().zip(closes(rows)).map(|(line, close)| row(line, close)).collect(),
+    }
+}
+
+// The machine
+
+#[derive(Clone, Copy)]
+enum End {
+    Done,
+    Assert,
+    Assume,
+    Fail,
+    Room,
+    Steps,
+    BadChoice,
+    NoChoice,
+}
+
+impl End {
+    fn name(self) -> &'static str {
+        match self {
+            End::Done => "done",
+            End::Assert => "assert",
+            End::Assume => "assume",
+            End::Fail => "fail",
+            End::Room => "room",
+            End::Steps => "steps",
+            End::BadChoice => "badchoice",
+            End::NoChoice => "nochoice",
+        }
+    }
+}
+
+#[derive(Clone, Copy)]
+struct Open {
+    row: usize,
+    start: u32,
+    end: u32,
+}
+
+#[derive(Clone, Copy)]
+struct Array {
+    first: usize,
+    length: u32,
+    cells: usize,
+    reduced: bool,
+}
+
+#[derive(Clone, Copy)]
+struct Pointer {
+    base: u32,
+    place: u32,
+}
+
+#[derive(Clone)]
+struct Record {
+    row: usize,
+    loops: Vec<Open>,
+    numbers: [u32; 32],
+    bases: [u32; 32],
+    arrays: Vec<Array>,
+}
+
+#[derive(Clone, Copy)]
+struct Pair {
+    c1: u32,
+    c2: u32,
+}
+
+impl Pair {
+    fn class(self, v: u32) -> u32 {
+        (v >= self.c1) as u32 + (v > self.c1) as u32 + (v >= self.c2) as u32 + (v > self.c2) as u32
+    }
+
+    fn tracks(self, v: u32) -> bool {
+        v == self.c1 || v == self.c2
+    }
+}
+
+struct Machine<'a> {
+    table: &'a Table,
+    pair: Pair,
+    record: &'a mut Record,
+    cells: &'a mut [u32],
+    list: &'a [u32],
+    used: usize,
+}
+
+impl Machine<'_> {
+    fn choice(&mut self) -> Result<u32, End> {
+        let v = *self.list.get(self.used).ok_or(End::NoChoice)?;
+        self.used += 1;
+        Ok(v)
+    }
+
+    fn choice_in(&mut self, class: u32) -> Result<u32, End> {
+        let v = self.choice()?;
+        if self.pair.class(v) == class { Ok(v) } else { Err(End::BadChoice) }
+    }
+
+    fn array(&self, p: Pointer) -> Option<Array> {
+        self.record.arrays.get((p.base as usize).wrapping_sub(1)).copied()
+    }
+
+    fn cell(&mut self, p: Pointer) -> Result<u32, End> {
+        let array = self.array(p).filter(|array| p.place < array.length).ok_or(End::Fail)?;
+        if !array.reduced {
+            Ok(self.cells[array.first + p.place as usize])
+        } else if self.pair.tracks(p.place) {
+            Ok(self.cells[array.first + self.pair.class(p.place) as usize])
+        } else {
+            self.choice()
+        }
+    }
+
+    fn uint(&mut self, n: usize) -> Result<u32, End> {
+        match self.table.nodes[n] {
+            Node::Variable(v) => Ok(self.record.numbers[v]),
+            Node::Uint(v) => Ok(v),
+            Node::Cell(p) => {
+                let p = self.pointer(p)?;
+                self.cell(p)
+            }
+            Node::Add(a, b) => self.uint(a)?.checked_add(self.uint(b)?).ok_or(End::Fail),
+            Node::Subtract(a, b) => self.uint(a)?.checked_sub(self.uint(b)?).ok_or(End::Fail),
+            Node::If(a, b, c) => {
+                if self.bool(a)? { self.uint(b) } else { self.uint(c) }
+            }
+            Node::Choice(v) => self.choice_in(self.record.numbers[v]),
+            _ => unreachable!(),
+        }
+    }
+
+    fn bool(&mut self, n: usize) -> Result<bool, End> {
+        match self.table.nodes[n] {
+            Node::Variable(v) => Ok(self.record.numbers[v] == 1),
+            Node::Bool(v) => Ok(v),
+            Node::Less(a, b) => Ok(self.uint(a)? < self.uint(b)?),
+            Node::LessOrEqual(a, b) => Ok(self.uint(a)? <= self.uint(b)?),
+            Node::Equal(a, b) => Ok(self.uint(a)? == self.uint(b)?),
+            Node::If(a, b, c) => {
+                if self.bool(a)? { self.bool(b) } else { self.bool(c) }
+            }
+            Node::Valid(p) => {
+                let p = self.pointer(p)?;
+                Ok(self.array(p).is_some_and(|array| p.place < array.length))
+            }
+            _ => unreachable!(),
+        }
+    }
+
+    fn pointer(&mut self, n: usize) -> Result<Pointer, End> {
+        match self.table.nodes[n] {
+            Node::Variable(v) => Ok(Pointer { base: self.record.bases[v], place: self.record.numbers[v] }),
+            Node::Add(a, b) => {
+                let Pointer { base, place } = self.pointer(a)?;
+                let place = place.checked_add(self.uint(b)?).ok_or(End::Fail)?;
+                Ok(Pointer { base, place })
+            }
+            Node::Subtract(a, b) => {
+                let Pointer { base, place } = self.pointer(a)?;
+                let place = place.checked_sub(self.uint(b)?).ok_or(End::Fail)?;
+                Ok(Pointer { base, place })
+            }
+            Node::If(a, b, c) => {
+                if self.bool(a)? { self.pointer(b) } else { self.pointer(c) }
+            }
+            _ => unreachable!(),
+        }
+    }
+
+    fn assign(&mut self, variable: usize, n: usize) -> Result<(), End> {
+        match self.table.variables[variable].sort {
+            Type::Bool => self.record.numbers[variable] = self.bool(n)? as u32,
+            Type::Uint => self.record.numbers[variable] = self.uint(n)?,
+            Type::Pointer => {
+                let Pointer { base, place } = self.pointer(n)?;
+                self.record.bases[variable] = base;
+                self.record.numbers[variable] = place;
+            }
+        }
+        Ok(())
+    }
+
+    fn write(&mut self, p: usize, v: usize) -> Result<(), End> {
+        let p = self.pointer(p)?;
+        let v = self.uint(v)?;
+        let array = self.array(p).ok_or(End::Fail)?;
+        let place = if array.reduced { self.choice_in(self.pair.class(p.place))? } else { p.place };
+        if place >= array.length {
+            return Err(End::Fail);
+        }
+        if !array.reduced {
+            self.cells[array.first + place as usize] = v;
+        } else if self.pair.tracks(place) {
+            self.cells[array.first + self.pair.class(place) as usize] = v;
+        }
+        Ok(())
+    }
+
+    fn new_array(&mut self, variable: usize, length: usize, reduced: bool) -> Result<(), End> {
+        let length = self.uint(length)?;
+        let first = self.record.arrays.last().map_or(0, |array| array.first + array.cells);
+        let cells = if reduced { self.pair.class(length) } else { length } as usize;
+        if self.record.arrays.len() == ARRAYS || self.cells.len() - first < cells {
+            return Err(End::Room);
+        }
+        self.cells[first..first + cells].fill(0);
+        self.record.arrays.push(Array { first, length, cells, reduced });
+        self.record.bases[variable] = self.record.arrays.len() as u32;
+        self.record.numbers[variable] = 0;
+        Ok(())
+    }
+
+    /// Tests a loop at a start and an end, which choices replace where it is reduced, and sets its iterator.
+    fn tested(&mut self, iterator: usize, start: u32, end: u32, classes: bool) -> Result<(u32, u32), End> {
+        if !classes {
+            self.record.numbers[iterator] = start;
+            return Ok((start, end));
+        }
+        let start = self.choice_in(self.pair.class(start))?;
+        let end = self.choice_in(self.pair.class(end))?;
+        self.record.numbers[iterator] = self.pair.class(start);
+        Ok((start, end))
+    }
+
+    fn close(&mut self) -> Result<(), End> {
+        let Open { row, start, end } = *self.record.loops.last().expect("an open loop");
+        let Row::Loop { iterator, classes, .. } = self.table.rows[row] else { unreachable!() };
+        let start = start.checked_add(1).ok_or(End::Fail)?;
+        let (start, end) = self.tested(iterator, start, end, classes)?;
+        if start <= end {
+            *self.record.loops.last_mut().expect("an open loop") = Open { row, start, end };
+            self.record.row = row + 1;
+        } else {
+            self.record.loops.pop();
+            self.record.row += 1;
+        }
+        Ok(())
+    }
+
+    /// One row; an end leaves record and cells as they were.
+    fn step(&mut self) -> Result<(), End> {
+        match self.table.rows[self.record.row] {
+            Row::Skip => {}
+            Row::Assign(variable, n) => self.assign(variable, n)?,
+            Row::Write(p, v) => self.write(p, v)?,
+            Row::Assert(n) => {
+                if !self.bool(n)? {
+                    return Err(End::Assert);
+                }
+            }
+            Row::Assume(n) => {
+                if !self.bool(n)? {
+                    return Err(End::Assume);
+                }
+            }
+            Row::New { variable, length, reduced } => self.new_array(variable, length, reduced)?,
+            Row::Loop { iterator, start, end, classes, close } => {
+                let start = self.uint(start)?;
+                let end = self.uint(end)?;
+                let (start, end) = self.tested(iterator, start, end, classes)?;
+                if start <= end {
+                    self.record.loops.push(Open { row: self.record.row, start, end });
+                } else {
+                    self.record.row = close;
+                }
+            }
+            Row::Close => return self.close(),
+        }
+        self.record.row += 1;
+        Ok(())
+    }
+
+    fn run(&mut self, limit: u32) -> (End, u32) {
+        let mut steps = 0;
+        while self.record.row < self.table.rows.len() {
+            if steps == limit {
+                return (End::Steps, steps);
+            }
+            let used = self.used;
+            if let Err(end) = self.step() {
+                if let End::BadChoice | End::NoChoice = end {
+                    self.used = used;
+                    return (end, steps);
+                }
+                return (end, steps + 1);
+            }
+            steps += 1;
+        }
+        (End::Done, steps)
+    }
+}
+
+fn fresh(table: &Table, reduced: bool, pair: Pair) -> Record {
+    let mut numbers = [0; 32];
+    for (n, v) in numbers.iter_mut().zip(&table.variables) {
+        if reduced && v.marked && v.sort == Type::Uint {
+            *n = pair.class(0);
+        }
+    }
+    Record { row: 0, loops: Vec::with_capacity(8), numbers, bases: [0; 32], arrays: Vec::with_capacity(ARRAYS) }
+}
+
+// The cases
+
+fn mix(h: u32, w: u32) -> u32 {
+    h.wrapping_mul(31).wrapping_add(w)
+}
+
+fn record_check(table: &Table, record: &Record) -> u32 {
+    let mut words = vec![record.row as u32, record.loops.len() as u32];
+    for open in &record.loops {
+        words.extend([open.row as u32, open.start, open.end]);
+    }
+    for (i, v) in table.variables.iter().enumerate() {
+        words.push(record.numbers[i]);
+        if v.sort == Type::Pointer {
+            words.push(record.bases[i]);
+        }
+    }
+    words.push(record.arrays.len() as u32);
+    for array in &record.arrays {
+        words.extend([array.first as u32, array.length, array.reduced as u32]);
+    }
+    words.into_iter().fold(0, mix)
+}
+
+fn refusal(reduced: bool, pair: Pair, lent: usize) -> Option<u32> {
+    if reduced && pair.c1 as u64 + 1 >= pair.c2 as u64 {
+        Some(13)
+    } else if lent != if reduced { 4112 } else { 4096 } {
+        Some(14)
+    } else {
+        None
+    }
+}
+
+fn run_case(words: &[u32], output: &mut impl Write) -> io::Result<()> {
+    let (head, rest) = words.split_at(HEAD);
+    let &[machine, c1, c2, lent, table, list, times] = head else { unreachable!() };
+    let (reduced, pair) = (machine == 1, Pair { c1, c2 });
+    let (table_words, rest) = rest.split_at(table as usize);
+    let (mut list, runs) = rest.split_at(list as usize);
+    let mut cells = vec![FILL; lent as usize];
+    let refused = refusal(reduced, pair, cells.len());
+    let mut record = None;
+    for run in runs.chunks_exact(2) {
+        assert!(run[1] == 0, "a run with edits");
+        if let Some(number) = refused {
+            write!(output, "refused {number} line 0")?;
+        } else {
+            let first = record.is_none();
+            let mut ran = (End::Done, 0, 0);
+            for _ in 0..if first { times.max(1) } else { 1 } {
+                let table = decode(black_box(table_words));
+                if first {
+                    cells.fill(0);
+                    record = Some(fresh(&table, reduced, pair));
+                }
+                let record = record.as_mut().expect("a record");
+                let mut machine = Machine { table: &table, pair, record, cells: &mut cells, list, used: 0 };
+                let (end, steps) = black_box(machine.run(run[0]));
+                ran = (end, steps, machine.used);
+            }
+            let (end, steps, used) = ran;
+            list = &list[used..];
+            let record = record.as_ref().expect("a record");
+            let check = record_check(&decode(table_words), record);
+            write!(output, "{} row {} steps {steps} choices {used} record {check}", end.name(), record.row)?;
+        }
+        writeln!(output, " cells {}", cells.iter().copied().fold(0, mix))?;
+    }
+    Ok(())
+}
+
+fn main() -> io::Result<()> {
+    let mut input = io::stdin().lock();
+    let mut output = BufWriter::new(io::stdout().lock());
+    let mut length = [0; 4];
+    while input.read_exact(&mut length).is_ok() {
+        let n = u32::from_le_bytes(length) as usize;
+        let mut case = vec![0; n];
+        if n > ROOM || input.read_exact(&mut case).is_err() {
+            break;
+        }
+        let words: Vec<u32> = case.chunks_exact(4).map(|w| u32::from_le_bytes(w.try_into().unwrap())).collect();
+        run_case(&words, &mut output)?;
+    }
+    output.flush()
+}

@@ -1,0 +1,83 @@
+-- The measure is what is left of the eight loops.
+-- Assumes nothing.
+use borrow.Author.Needs.{needs}
+use Prim.Native.Nat.{_-_}
+use Rattle.run_cases.proofs.with_loops.Statement.{statement}
+use Rattle.run_cases.proofs.with_loops.Tie as tie
+
+abbrev Inv-loop : tie.InvT-loop
+Inv-loop h₀ m «open» i₀ h i = Unit {0}
+
+abbrev μ-loop : tie.MeasureT-loop
+μ-loop h₀ m «open» i₀ h i = 8 - i
+
+cast-open : tie.Need-cast-open Inv-loop μ-loop
+cast-open c = search needs
+
+loop-holds : tie.Need-loop-holds Inv-loop μ-loop
+loop-holds c = search needs
+
+mul-mixed : tie.Need-mul-mixed Inv-loop μ-loop
+mul-mixed c = search needs
+
+element-copy-out-mixed : tie.Need-element-copy-out-mixed Inv-loop μ-loop
+element-copy-out-mixed c = search needs
+
+mixed-requires : tie.Need-mixed-requires Inv-loop μ-loop
+mixed-requires c κs = search needs
+
+mul-mixed-2 : tie.Need-mul-mixed-2 Inv-loop μ-loop
+mul-mixed-2 c = search needs
+
+element-copy-out-mixed-2 : tie.Need-element-copy-out-mixed-2 Inv-loop μ-loop
+element-copy-out-mixed-2 c = search needs
+
+mixed-requires-2 : tie.Need-mixed-requires-2 Inv-loop μ-loop
+mixed-requires-2 c κs = search needs
+
+mul-mixed-3 : tie.Need-mul-mixed-3 Inv-loop μ-loop
+mul-mixed-3 c = search needs
+
+element-copy-out-mixed-3 : tie.Need-element-copy-out-mixed-3 Inv-loop μ-loop
+element-copy-out-mixed-3 c = search needs
+
+mixed-requires-3 : tie.Need-mixed-requires-3 Inv-loop μ-loop
+mixed-requires-3 c κs = search needs
+
+add-i : tie.Need-add-i Inv-loop μ-loop
+add-i c = search needs
+
+loop-less : tie.Need-loop-less Inv-loop μ-loop
+loop-less c = search needs
+
+loop-again : tie.Need-loop-again Inv-loop μ-loop
+loop-again c = search needs
+
+returns : tie.Need-returns Inv-loop μ-loop
+returns c = search needs
+
+returns-2 : tie.Need-returns-2 Inv-loop μ-loop
+returns-2 c = search needs
+
+pub with-loops-spec : {M : Type 1} → statement M
+with-loops-spec =
+    tie.close
+    (tie.spec
+    Inv-loop
+    μ-loop
+    cast-open
+    loop-holds
+    mul-mixed
+    element-copy-out-mixed
+    mixed-requires
+    mul-mixed-2
+    element-copy-out-mixed-2
+    mixed-requires-2
+    mul-mixed-3
+    element-copy-out-mixed-3
+    mixed-requires-3
+    add-i
+    loop-less
+    loop-again
+    returns
+    returns-2)
