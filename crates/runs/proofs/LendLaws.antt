@@ -91,7 +91,7 @@ module _ (t : List ℕ) (f : Frame) (cells₀ : List ℕ) (S : Lends t f cells�
   -- a fresh record, in cells that are all zero
   module _ (m : Machine) (cells : List ℕ) (row : m .row ≡ 0) (none : m .open ≡ 0) (count : m .count ≡ 0)
       (vars : varsOf t f (m .numbers) (m .bases) ≡ freshVars t f) (zeros : cells ≡ replicate (length cells₀) 0) where
-    state-fresh : stateOf t f m cells ≡ fresh (places f) (kindOf f) (tableFor t f)
+    pub state-fresh : stateOf t f m cells ≡ fresh (places f) (kindOf f) (tableFor t f)
     unfolding loopsOf arraysOf fresh freshVars tab
     state-fresh = rw (row, none, count, vars, zeros, checked .sized)
 

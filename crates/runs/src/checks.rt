@@ -50,7 +50,7 @@ fn cells_of(classes: bool) -> usize
 }
 
 // 14, of so many cells.
-fn check_size(size: usize, stated: usize) -> Verdict
+pub fn check_size(size: usize, stated: usize) -> Verdict
     ensures { λ r. ⌜ r ≡ sizeCheck size stated ⌝ }
 {
     if size == stated {

@@ -1,5 +1,5 @@
 // The runs of both machines, fresh and continued: what they are lent is checked in document 01's order, and a refusal writes nothing.
-mod checks;
+pub mod checks;
 mod continued;
 mod fresh;
 mod loops;

@@ -15,47 +15,11 @@ Inv-loop t cells f m closed₀ left₀ i₀ closed left i = (closed + i ≤ m .r
 abbrev μ-loop : tie.MeasureT-loop
 μ-loop t cells f m closed₀ left₀ i₀ closed left i = i
 
-cast-left : tie.Need-cast-left Inv-loop μ-loop
-cast-left c = search needs
-
-cast-i : tie.Need-cast-i Inv-loop μ-loop
-cast-i c = search needs
-
 loop-holds : tie.Need-loop-holds Inv-loop μ-loop
 loop-holds c = let g = c .before .before .args in (omega arith, around-all (g .t .now) (g .cells .now) (g .f) (g .t4))
 
-sub-i : tie.Need-sub-i Inv-loop μ-loop
-sub-i c = search needs
-
-add-word-or-zero : tie.Need-add-word-or-zero Inv-loop μ-loop
-add-word-or-zero c = search needs
-
-add-word-or-zero-2 : tie.Need-add-word-or-zero-2 Inv-loop μ-loop
-add-word-or-zero-2 c = search needs
-
-mul-word-or-zero : tie.Need-mul-word-or-zero Inv-loop μ-loop
-mul-word-or-zero c = search needs
-
-word-or-zero-requires : tie.Need-word-or-zero-requires Inv-loop μ-loop
-word-or-zero-requires c κs = search needs
-
-nest-of-requires : tie.Need-nest-of-requires Inv-loop μ-loop
-nest-of-requires c κs = search needs
-
-passed-requires : tie.Need-passed-requires Inv-loop μ-loop
-passed-requires c κs = search needs
-
-enum-known-w : tie.Need-enum-known-w Inv-loop μ-loop
-enum-known-w c = search needs
-
-enum-told : tie.Need-enum-told Inv-loop μ-loop
-enum-told c = search needs
-
 returns : tie.Need-returns Inv-loop μ-loop
 returns c = let g = c .before .before .before .before .before .before .before .before .before .before .before .before .before .args in let l = c .before .before .before .before .before .before .before .before .before .before .loop in around-off (g .t .now) (g .cells .now) (g .f) (g .t4) _ _ (l .i) (l .i - 1) (l .inv .1) (omega arith) _ (c .before .before .before .before .before .before .nest-of .ensures ∙ ap nest (c .before .before .before .before .before .before .before .word-or-zero .ensures)) _ (c .before .before .passed .ensures) (c .enum-told .given .1)
-
-loop-less : tie.Need-loop-less Inv-loop μ-loop
-loop-less c = search needs
 
 loop-again : tie.Need-loop-again Inv-loop μ-loop
 loop-again c = let g = c .before .before .before .before .before .before .before .before .before .before .before .before .before .before .args in let l = c .before .before .before .before .before .before .before .before .before .before .before .loop in let e = c .before .before .before .before .before .before .before .nest-of .ensures ∙ ap nest (c .before .before .before .before .before .before .before .before .word-or-zero .ensures) in let b = around-most (g .t .now) (g .cells .now) (g .f) (g .t4) _ _ (l .i) (l .i - 1) (l .inv .1) (omega arith) _ e _ (c .before .before .before .passed .ensures) (c .before .w .given .1) in (omega (arith, b), around-next (g .t .now) (g .cells .now) (g .f) (g .t4) _ _ (l .i) (l .i - 1) (l .inv .1) (omega arith) _ e _ (c .before .before .before .passed .ensures) (c .before .w .given .1))
@@ -69,19 +33,19 @@ loops-around-spec =
     (tie.spec
     Inv-loop
     μ-loop
-    cast-left
-    cast-i
+    (λ c. search needs)
+    (λ c. search needs)
     loop-holds
-    sub-i
-    add-word-or-zero
-    add-word-or-zero-2
-    mul-word-or-zero
-    word-or-zero-requires
-    nest-of-requires
-    passed-requires
-    enum-known-w
-    enum-told
+    (λ c. search needs)
+    (λ c. search needs)
+    (λ c. search needs)
+    (λ c. search needs)
+    (λ c κs. search needs)
+    (λ c κs. search needs)
+    (λ c κs. search needs)
+    (λ c. search needs)
+    (λ c. search needs)
     returns
-    loop-less
+    (λ c. search needs)
     loop-again
     returns-2)

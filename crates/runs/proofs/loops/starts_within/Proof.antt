@@ -16,26 +16,11 @@ Inv-loop m n₀ n = startsWithin (loopsOf n (m .«loop_rows») (m .starts) (m .e
 abbrev μ-loop : tie.MeasureT-loop
 μ-loop m n₀ n = n
 
-cast-n : tie.Need-cast-n Inv-loop μ-loop
-cast-n c = search needs
-
 loop-holds : tie.Need-loop-holds Inv-loop μ-loop
 loop-holds c = refl
 
-sub-n : tie.Need-sub-n Inv-loop μ-loop
-sub-n c = search needs
-
-word-or-zero-requires : tie.Need-word-or-zero-requires Inv-loop μ-loop
-word-or-zero-requires c κs = search needs
-
-word-or-zero-requires-2 : tie.Need-word-or-zero-requires-2 Inv-loop μ-loop
-word-or-zero-requires-2 c κs = search needs
-
 returns : tie.Need-returns Inv-loop μ-loop
 returns c = let l = c .before .before .before .before .before .before .before .before .before .before .loop in starts-off _ _ _ (l .n) (l .n - 1) (omega arith) (c .before .word-or-zero2 .ensures) (c .before .before .before .before .before .word-or-zero .ensures) (c .if1 .taken) ∙ l .inv
-
-loop-less : tie.Need-loop-less Inv-loop μ-loop
-loop-less c = search needs
 
 loop-again : tie.Need-loop-again Inv-loop μ-loop
 loop-again c = let l = c .before .before .before .before .before .before .before .before .before .before .loop in starts-on _ _ _ (l .n) (l .n - 1) (omega arith) (c .before .word-or-zero2 .ensures) (c .before .before .before .before .before .word-or-zero .ensures) (omega (arith, c .if1 .left)) ∙ l .inv
@@ -49,12 +34,12 @@ starts-within-spec =
     (tie.spec
     Inv-loop
     μ-loop
-    cast-n
+    (λ c. search needs)
     loop-holds
-    sub-n
-    word-or-zero-requires
-    word-or-zero-requires-2
+    (λ c. search needs)
+    (λ c κs. search needs)
+    (λ c κs. search needs)
     returns
-    loop-less
+    (λ c. search needs)
     loop-again
     returns-2)

@@ -17,44 +17,8 @@ abbrev μ-loop : tie.MeasureT-loop
 returns : tie.Need-returns Inv-loop μ-loop
 returns c = let g = c .before .before .before .args in laying-many (g .t .now) (g .cells .now) (g .f) (g .t4) (c .if1 .taken)
 
-cast-n : tie.Need-cast-n Inv-loop μ-loop
-cast-n c = search needs
-
 loop-holds : tie.Need-loop-holds Inv-loop μ-loop
 loop-holds c = let g = c .before .before .before .args in (omega arith, refl, omega arith, omega arith, laying-all (g .t .now) (g .cells .now) (g .f) (g .t4) (omega (arith, c .if1 .left)))
-
-element-copy-out-reduced : tie.Need-element-copy-out-reduced Inv-loop μ-loop
-element-copy-out-reduced c = search needs
-
-mul-array-fits : tie.Need-mul-array-fits Inv-loop μ-loop
-mul-array-fits c = search needs
-
-element-copy-out-array-fits : tie.Need-element-copy-out-array-fits Inv-loop μ-loop
-element-copy-out-array-fits c = search needs
-
-array-fits-requires : tie.Need-array-fits-requires Inv-loop μ-loop
-array-fits-requires c κs = search needs
-
-mul-size-for : tie.Need-mul-size-for Inv-loop μ-loop
-mul-size-for c = search needs
-
-element-copy-out-size-for : tie.Need-element-copy-out-size-for Inv-loop μ-loop
-element-copy-out-size-for c = search needs
-
-size-for-requires : tie.Need-size-for-requires Inv-loop μ-loop
-size-for-requires c κs = search needs
-
-cast-from : tie.Need-cast-from Inv-loop μ-loop
-cast-from c = search needs
-
-add-from : tie.Need-add-from Inv-loop μ-loop
-add-from c = search needs
-
-add-i : tie.Need-add-i Inv-loop μ-loop
-add-i c = search needs
-
-loop-less : tie.Need-loop-less Inv-loop μ-loop
-loop-less c = search needs
 
 loop-again : tie.Need-loop-again Inv-loop μ-loop
 loop-again c = let g = c .before .before .before .before .before .before .before .before .before .before .before .args in let l = c .before .before .before .before .before .before .before .loop in (omega arith, l .inv .1, l .inv .2, omega arith, laying-next (g .t .now) (g .cells .now) (g .f) (g .t4) (l .from) (l .i) (l .inv .4) (omega arith) (c .size-for .ensures) (sym (c .before .before .before .array-fits .ensures) ∙ c .before .before .if2 .taken))
@@ -72,19 +36,19 @@ arrays-fit-spec =
     Inv-loop
     μ-loop
     returns
-    cast-n
+    (λ c. search needs)
     loop-holds
-    element-copy-out-reduced
-    mul-array-fits
-    element-copy-out-array-fits
-    array-fits-requires
-    mul-size-for
-    element-copy-out-size-for
-    size-for-requires
-    cast-from
-    add-from
-    add-i
-    loop-less
+    (λ c. search needs)
+    (λ c. search needs)
+    (λ c. search needs)
+    (λ c κs. search needs)
+    (λ c. search needs)
+    (λ c. search needs)
+    (λ c κs. search needs)
+    (λ c. search needs)
+    (λ c. search needs)
+    (λ c. search needs)
+    (λ c. search needs)
     loop-again
     returns-2
     returns-3)

@@ -17,30 +17,6 @@ abbrev μ-loop : tie.MeasureT-loop
 loop-holds : tie.Need-loop-holds Inv-loop μ-loop
 loop-holds c = let g = c .before .before .args in (omega arith, refl, vars-none (g .t .now) (g .cells .now) (g .f) (g .t4))
 
-sort-at-requires : tie.Need-sort-at-requires Inv-loop μ-loop
-sort-at-requires c κs = search needs
-
-mul-variable-fits : tie.Need-mul-variable-fits Inv-loop μ-loop
-mul-variable-fits c = search needs
-
-element-copy-out-variable-fits : tie.Need-element-copy-out-variable-fits Inv-loop μ-loop
-element-copy-out-variable-fits c = search needs
-
-mul-variable-fits-2 : tie.Need-mul-variable-fits-2 Inv-loop μ-loop
-mul-variable-fits-2 c = search needs
-
-element-copy-out-variable-fits-2 : tie.Need-element-copy-out-variable-fits-2 Inv-loop μ-loop
-element-copy-out-variable-fits-2 c = search needs
-
-variable-fits-requires : tie.Need-variable-fits-requires Inv-loop μ-loop
-variable-fits-requires c κs = search needs
-
-add-i : tie.Need-add-i Inv-loop μ-loop
-add-i c = search needs
-
-loop-less : tie.Need-loop-less Inv-loop μ-loop
-loop-less c = search needs
-
 loop-again : tie.Need-loop-again Inv-loop μ-loop
 loop-again c = let g = c .before .before .before .before .before .before .before .before .before .args in let l = c .before .before .before .before .before .before .loop in (omega arith, l .inv .1, vars-next (g .t .now) (g .cells .now) (g .f) (g .t4) (l .i) (omega arith) (c .before .before .before .before .sort-at .ensures) (l .inv .2) (sym (c .before .variable-fits .ensures) ∙ c .if1 .taken))
 
@@ -57,14 +33,14 @@ variables-fit-spec =
     Inv-loop
     μ-loop
     loop-holds
-    sort-at-requires
-    mul-variable-fits
-    element-copy-out-variable-fits
-    mul-variable-fits-2
-    element-copy-out-variable-fits-2
-    variable-fits-requires
-    add-i
-    loop-less
+    (λ c κs. search needs)
+    (λ c. search needs)
+    (λ c. search needs)
+    (λ c. search needs)
+    (λ c. search needs)
+    (λ c κs. search needs)
+    (λ c. search needs)
+    (λ c. search needs)
     loop-again
     returns
     returns-2)

@@ -18,29 +18,14 @@ abbrev μ-loop : tie.MeasureT-loop
 loop-holds : tie.Need-loop-holds Inv-loop μ-loop
 loop-holds c = let g = c .before .before .before .args in (left-all (g .t .now) (g .f) (g .list .now) (g .limit) (g .m) (g .cells .now) (c .before .before .before .pre), refl)
 
-cast-if1 : tie.Need-cast-if1 Inv-loop μ-loop
-cast-if1 c = search needs
-
-ran-to-requires : tie.Need-ran-to-requires Inv-loop μ-loop
-ran-to-requires c κs = search needs
-
-same-length : tie.Need-same-length Inv-loop μ-loop
-same-length c = search needs
-
 returns : tie.Need-returns Inv-loop μ-loop
 returns c = let g = c .before .before .before .before .before .before .before .before .before .args in let head = c .before .before .before .before .before .loop in let inside : head .m .row < g .f .rows = omega (arith, c .before .before .if1 .taken) in left-out (g .t .now) (g .f) (g .list .now) (g .limit) (g .m) (g .cells .now) (head .m) (head .cells) (head .at) (head .steps) (head .inv .0) inside (c .before .if2 .taken) _ (c .ran-to .ensures)
 
 step-requires : tie.Need-step-requires Inv-loop μ-loop
 step-requires c κs = let g = c .before .before .before .before .before .before .before .before .before .args in let head = c .before .before .before .before .before .loop in let inside : head .m .row < g .f .rows = omega (arith, c .before .before .if1 .taken) in within (g .t .now) (g .f) (head .m) (head .cells) (head .inv .0 .ready) inside
 
-enum-known-o : tie.Need-enum-known-o Inv-loop μ-loop
-enum-known-o c = search needs
-
 stopped-requires : tie.Need-stopped-requires Inv-loop μ-loop
 stopped-requires c κs = let g = c .before .before .before .before .before .before .before .before .before .before .before .before .before .before .args in let head = c .before .before .before .before .before .before .before .before .before .before .loop in let u : head .steps < g .limit = omega (arith, head .inv .0 .upto, c .before .before .before .before .before .before .if2 .left) in omega (arith, u, c .before .before .before .before .before .before .before .before .before .before .before .before .before .before .fits)
-
-same-length-2 : tie.Need-same-length-2 Inv-loop μ-loop
-same-length-2 c = search needs
 
 returns-2 : tie.Need-returns-2 Inv-loop μ-loop
 returns-2 c = let g = c .before .before .before .before .before .before .before .before .before .before .before .before .before .before .before .args in let head = c .before .before .before .before .before .before .before .before .before .before .before .loop in let inside : head .m .row < g .f .rows = omega (arith, c .before .before .before .before .before .before .before .before .if1 .taken) in let u : head .steps < g .limit = omega (arith, head .inv .0 .upto, c .before .before .before .before .before .before .before .if2 .left) in left-stop (g .t .now) (g .f) (g .list .now) (g .limit) (g .m) (g .cells .now) (head .m) (head .cells) (head .at) (head .steps) (head .inv .0) inside u (numbers-left (head .at) (g .list .now) (λ i. omega (arith, c .before .before .before .before .before .before .before .before .before .before .before .before .shared-slice-known2 .given i))) _ _ _ (c .before .before .before .before .before .step .ensures .0) (c .before .before .before .before .before .step .ensures .1) (c .before .match .keys2) _ (c .stopped .ensures)
@@ -54,12 +39,6 @@ loop-less c = let g = c .before .before .before .before .before .before .before 
 loop-again : tie.Need-loop-again Inv-loop μ-loop
 loop-again c = let g = c .before .before .before .before .before .before .before .before .before .before .before .before .before .before .before .before .args in let head = c .before .before .before .before .before .before .before .before .before .before .before .before .loop in let inside : head .m .row < g .f .rows = omega (arith, c .before .before .before .before .before .before .before .before .before .if1 .taken) in let u : head .steps < g .limit = omega (arith, head .inv .0 .upto, c .before .before .before .before .before .before .before .before .if2 .left) in (left-again (g .t .now) (g .f) (g .list .now) (g .limit) (g .m) (g .cells .now) (head .m) (head .cells) (head .at) (head .steps) (head .inv .0) inside u (numbers-left (head .at) (g .list .now) (λ i. omega (arith, c .before .before .before .before .before .before .before .before .before .before .before .before .before .shared-slice-known2 .given i))) _ _ _ _ (c .before .before .before .before .before .before .step .ensures .0) (c .before .o .given .1) (c .before .before .before .before .before .before .step .kept .1 .1 .0), (c .before .before .before .before .before .before .step .kept .1 .1 .0) ∙ head .inv .1)
 
-ran-to-requires-2 : tie.Need-ran-to-requires-2 Inv-loop μ-loop
-ran-to-requires-2 c κs = search needs
-
-same-length-3 : tie.Need-same-length-3 Inv-loop μ-loop
-same-length-3 c = search needs
-
 returns-3 : tie.Need-returns-3 Inv-loop μ-loop
 returns-3 c = let g = c .before .before .before .before .before .before .before .before .args in let head = c .before .before .before .before .loop in let past : g .f .rows ≤ head .m .row = omega (arith, c .before .if1 .left) in left-done (g .t .now) (g .f) (g .list .now) (g .limit) (g .m) (g .cells .now) (head .m) (head .cells) (head .at) (head .steps) (head .inv .0) past _ (c .ran-to2 .ensures)
 
@@ -70,18 +49,18 @@ run-steps-spec =
     Inv-loop
     μ-loop
     loop-holds
-    cast-if1
-    ran-to-requires
-    same-length
+    (λ c. search needs)
+    (λ c κs. search needs)
+    (λ c. search needs)
     returns
     step-requires
-    enum-known-o
+    (λ c. search needs)
     stopped-requires
-    same-length-2
+    (λ c. search needs)
     returns-2
     add-steps
     loop-less
     loop-again
-    ran-to-requires-2
-    same-length-3
+    (λ c κs. search needs)
+    (λ c. search needs)
     returns-3)

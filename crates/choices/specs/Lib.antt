@@ -1,0 +1,4 @@
+-- The choice writer: what it is lent and hands back, its checks, what it says to the user, and demand 3.
+pub mod Steps
+pub mod Checks
+pub mod Answers
