@@ -3,3 +3,4 @@ pub mod BoundLaws
 pub mod ArrayLaws
 pub mod WriteLaws
 pub mod SaidLaws
+pub mod Demand3Proof

@@ -2,3 +2,4 @@
 pub mod Steps
 pub mod Checks
 pub mod Answers
+pub mod Demand3
