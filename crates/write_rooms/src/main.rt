@@ -1,0 +1,159 @@
+// Writes the choices of T (document 01) for the pair 1, 3 into lists of every length from 0 to 31, lent full of sevens, and prints for each
+// the end, the row, the steps, how many numbers were written, and the list at exit.
+use choices::Answered;
+use choices::End;
+use table::Verdict;
+ghost use Prim.Native.Nat.{_≤_};
+
+const MOST: usize = 31;
+
+const CELLS: usize = 4096;
+
+fn print_end(end: End) {
+    match end {
+        End::Done => {
+            io::write_all(1, b" done");
+        }
+        End::AssertFalse => {
+            io::write_all(1, b" assert");
+        }
+        End::AssumeFalse => {
+            io::write_all(1, b" assume");
+        }
+        End::Fail => {
+            io::write_all(1, b" fail");
+        }
+        End::WantOfCells => {
+            io::write_all(1, b" room");
+        }
+        End::OutOfSteps => {
+            io::write_all(1, b" steps");
+        }
+        End::ListFull => {
+            io::write_all(1, b" full");
+        }
+    }
+}
+
+fn print_word(word: u32) {
+    io::write_all(1, b" ");
+    io::print_decimal(1, word as u64);
+}
+
+fn print_list(list: &[u32]) {
+    let mut i: usize = 0;
+    while i < list.len() {
+        print_word(list[i]);
+        i += 1;
+    }
+    io::write_all(1, b"\n");
+}
+
+fn print_answer(a: Answered) {
+    let v = a.verdict;
+    let Verdict::Passes = v else {
+        io::write_all(1, b" refused");
+        return;
+    };
+    let w = a.wrote;
+    let end = w.end;
+    print_end(end);
+    let m = w.machine;
+    io::write_all(1, b" row ");
+    io::print_decimal(1, m.row as u64);
+    io::write_all(1, b" steps ");
+    io::print_decimal(1, w.steps as u64);
+    io::write_all(1, b" count ");
+    io::print_decimal(1, w.count);
+    io::write_all(1, b":");
+}
+
+fn write_in(t: &[u32], list: &mut [u32]) {
+    let mut cells = [0u32; CELLS];
+    let a = choices::write_choices(t, 1, 3, &mut cells, list, 100);
+    print_answer(a);
+    print_list(list);
+}
+
+fn write_room(t: &[u32], room: usize)
+    requires { ⌜ room ≤ 31 ⌝ }
+{
+    let mut list = [7u32; MOST];
+    io::write_all(1, b"room ");
+    io::print_decimal(1, room as u64);
+    write_in(t, &mut list[..room]);
+}
+
+fn main() {
+    let t: [u32; 64] = [
+        2,
+        1,
+        0,
+        0,
+        3,
+        1,
+        0,
+        0,
+        17,
+        5,
+        0,
+        0,
+        17,
+        0,
+        0,
+        0,
+        17,
+        4,
+        0,
+        0,
+        16,
+        1,
+        0,
+        0,
+        16,
+        0,
+        0,
+        0,
+        20,
+        3,
+        4,
+        0,
+        17,
+        7,
+        0,
+        0,
+        19,
+        5,
+        0,
+        0,
+        24,
+        7,
+        6,
+        0,
+        37,
+        1,
+        0,
+        0,
+        38,
+        0,
+        1,
+        2,
+        34,
+        5,
+        6,
+        0,
+        35,
+        8,
+        0,
+        0,
+        39,
+        0,
+        0,
+        0,
+    ];
+    let mut room: usize = 0;
+    while room <= MOST {
+        write_room(&t, room);
+        room += 1;
+    }
+}
