@@ -22,7 +22,7 @@ use Rattle.model.specs.Reduce.{reduce}
 use Rattle.model.specs.Writer.{withNumbers}
 use Rattle.model.specs.Demand3.{Demand3 as ModelDemand3, Matched, Ends, choicesUsed, plainRun, reducedRun, writerRun, choiceList}
 use Rattle.model.proofs.Demand3Proof.{fresh-can}
-use Rattle.reduction.specs.Reduction.{pairCheck, reduceAnswer}
+use Rattle.reduction.specs.Reduction.{pairCheck, reduceAnswer, reduceBuffer}
 use Rattle.runs.specs.Checks.{pairFor, runChecks}
 use Rattle.runs.specs.Answers.{ranSaid, freshSaid}
 use Rattle.runs.specs.Answers.Said.{reports}
@@ -87,15 +87,15 @@ module _ (c1 c2 : ℕ) (small : c2 ≤ most) (ok : pairCheck c1 c2 ≡ Passes) (
     matched = M;
   }
 
-  pub reduction-answers : reduceAnswer P c1 c2 (length P) ≡ Passes
-  unfolding reduceAnswer
-  reduction-answers = rw (p, ok, eq-eqb (length P) (length P) refl)
+  pub reduction-is : (lent : List ℕ) → length lent ≡ length P → (reduceAnswer P c1 c2 (length lent) ≡ Passes) × (reduceBuffer P c1 c2 lent ≡ reduce P)
+  unfolding reduceAnswer reduceBuffer
+  reduction-is lent n = (rw (p, ok, eq-eqb (length lent) (length P) n), rw (p, ok, eq-eqb (length lent) (length P) n))
 
 pub demand-3 : Demand3Holds
 demand-3 c1 c2 small ok P p =
     let M = model c1 c2 small ok P p in
     record {
-      reduces = reduction-answers c1 c2 small ok P p;
+      reduces = reduction-is c1 c2 small ok P p;
       passes = reduction-passes P p;
       plainFresh = λ cells limit. fresh-ends plain 0 0 P cells [] limit (omega numbers) tt;
       reducedFresh = λ cells choices n limit. fresh-ends reduced c1 c2 (reduce P) cells choices limit small n;

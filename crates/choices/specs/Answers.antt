@@ -36,6 +36,6 @@ numbersOf noEnd = []
 abbrev pub wroteSaid : List ℕ → Report → Said
 wroteSaid lent report = writes report (length (numbersOf report)) (numbersOf report ++ drop (length (numbersOf report)) lent)
 
--- a refusal leaves cells and list as they were lent
+-- "The choice writer runs the plain table fresh"; a refusal leaves cells and list as they were lent
 unfoldable pub writerSaid : ℕ → ℕ → List ℕ → List ℕ → List ℕ → ℕ → Said
 writerSaid c1 c2 t cells lent limit = saidBy (writerChecks c1 c2 t (length cells)) cells lent (wroteSaid lent (writerRun c1 c2 t limit (length lent)))

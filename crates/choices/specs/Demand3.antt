@@ -13,7 +13,7 @@ use Rattle.model.specs.Step.{Report}
 use Rattle.model.specs.Reduce.{reduce}
 use Rattle.model.specs.Writer.{withNumbers}
 use Rattle.model.specs.Demand3.{wantsCells, plainRun, choiceList, Matched, FullAfter, Numbers}
-use Rattle.reduction.specs.Reduction.{pairCheck, reduceAnswer}
+use Rattle.reduction.specs.Reduction.{pairCheck, reduceAnswer, reduceBuffer}
 use Rattle.runs.specs.Answers.{Said, freshSaid, continuedSaid}
 use Rattle.runs.specs.Answers.Said.{reports}
 use Rattle.runs.specs.Promises.{SaysEnd}
@@ -42,9 +42,10 @@ pub record SaysFull (c1 c2 : ℕ) (P : List ℕ) (limit : ℕ) (cells lent : Lis
 -- exactly when the room is shorter. One claim about whole runs."
 pub record Demand3 (c1 c2 : ℕ) (P : List ℕ) : Type 0 where
   -- `reduce_table` makes Q of P in a buffer as long, and Q passes
-  pub reduces : reduceAnswer P c1 c2 (length P) ≡ Passes
+  pub reduces : (lent : List ℕ) → length lent ≡ length P → (reduceAnswer P c1 c2 (length lent) ≡ Passes) × (reduceBuffer P c1 c2 lent ≡ reduce P)
   pub passes : tableCheck reduced (reduce P) ≡ Passes
-  -- what `run_plain`, `run_reduced`, `continue_plain` and `continue_reduced` say is a refusal or an end, never the outcome that is no end
+  -- what `run_plain`, `run_reduced`, `continue_plain` and `continue_reduced` say is a refusal or an end, never the outcome that is no end;
+  -- P and Q pass 4 to 13, so that a refusal here is 14 or 15
   pub plainFresh : (cells : List ℕ) (limit : ℕ) → SaysEnd plain 0 0 (tableOf P) (freshSaid plain 0 0 P cells [] limit)
   pub reducedFresh : (cells choices : List ℕ) → Numbers choices → (limit : ℕ) → SaysEnd reduced c1 c2 (tableOf (reduce P)) (freshSaid reduced c1 c2 (reduce P) cells choices limit)
   pub plainContinued : (s : State) (limit : ℕ) → SaysEnd plain 0 0 (tableOf P) (continuedSaid plain 0 0 P s [] limit)
@@ -53,12 +54,14 @@ pub record Demand3 (c1 c2 : ℕ) (P : List ℕ) : Type 0 where
   -- the fresh runs, with cells of the stated sizes
   pub matched : (limit : ℕ) (cells reducedCells : List ℕ) → length cells ≡ cellCount plain → length reducedCells ≡ cellCount reduced → wantsCells (plainRun P limit) ≡ false
       → SayMatched c1 c2 P (choiceList c1 c2 P limit) (freshSaid plain 0 0 P cells [] limit) (freshSaid reduced c1 c2 (reduce P) reducedCells (choiceList c1 c2 P limit) limit)
-  -- "in a count of 64 bits", for a limit of 32
+  -- "in a count of 64 bits", for a limit of 32 bits
   pub counted : (limit : ℕ) → limit ≤ most → length (choiceList c1 c2 P limit) < 2 ^ 64
   -- "With room for it the writer ends as the plain run does."
   pub fits : (limit : ℕ) (cells lent : List ℕ) → length cells ≡ cellCount plain → length (choiceList c1 c2 P limit) ≤ length lent
       → writerSaid c1 c2 P cells lent limit
       ≡ writes (withNumbers (choiceList c1 c2 P limit) (plainRun P limit)) (length (choiceList c1 c2 P limit)) (choiceList c1 c2 P limit ++ drop (length (choiceList c1 c2 P limit)) lent)
+  -- "ends with "list full" exactly when the room is shorter"; "A step whose choices don't all fit is not taken; the rest of the list is
+  -- kept." (R23)
   pub full : (limit : ℕ) (cells lent : List ℕ) → length cells ≡ cellCount plain → length lent < length (choiceList c1 c2 P limit) → SaysFull c1 c2 P limit cells lent
 
 -- for any table that passes and any accepted pair of 32-bit places

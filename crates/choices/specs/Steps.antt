@@ -25,7 +25,7 @@ pub record Begins (t : List ℕ) (f : Frame) (m : Machine) (cells : List ℕ) : 
   pub shallow : (n : ℕ) → n < f .nodes → depth (tableFor t f) n ≤ mostDepth
   pub none : m .count ≡ 0
 
--- the ends, each the model's
+-- those of a plain run, and "list full (choice writer only)"
 abbrev pub endOf : End → ModelEnd
 endOf Code.Done = done
 endOf Code.AssertFalse = assertFalse
@@ -43,7 +43,7 @@ abbrev pub wrote : End → ℕ → ℕ → Machine → Wrote
 wrote e n at m = record { end = e; steps = n; count = at; machine = m }
 
 -- A row that does not go on, after n steps, with the numbers up to `at` written: "A step that ends a run counts"; "its used choices count".
--- A plain step takes no choice and is never stuck, so what stands for those is never handed back.
+-- A plain step takes no choice and is never stuck, and none that goes on is asked of, so what stands for those is never handed back.
 abbrev pub stoppedOf : Outcome → ℕ → ℕ → Machine → Wrote
 stoppedOf (Goes next) n at m = wrote Code.Fail (suc n) at m
 stoppedOf (AssertFalse next) n at m = wrote Code.AssertFalse (suc n) at m

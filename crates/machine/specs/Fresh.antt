@@ -9,7 +9,7 @@ use Rattle.machine.specs.declared.variables.Sort.{Sort}
 use Rattle.machine.specs.declared.variables.Sort.the-variants.{Bool, Uint, Class, Pointer}
 use Rattle.machine.specs.View.{kindOf, places, tableFor, sortIn}
 
--- "A marked iterator holds a class, at first that of 0"; any other variable's number is 0
+-- "Variables start at 0, false, or the pointer with no array and place 0"; "A marked iterator holds a class, at first that of 0."
 abbrev pub startBySort : List ℕ → Sort → ℕ
 startBySort ps Bool = 0
 startBySort ps Uint = 0
@@ -19,6 +19,6 @@ startBySort ps Pointer = 0
 unfoldable pub startNumber : List ℕ → Frame → ℕ → ℕ
 startNumber t f i = startBySort (places f) (sortIn t f i)
 
--- the model's
+-- the variables of the model's fresh state
 unfoldable pub freshVars : List ℕ → Frame → List Value
 freshVars t f = tab (f .decls) (startOf (places f) (kindOf f) (tableFor t f))

@@ -23,6 +23,7 @@ use Rattle.machine.specs.declared.arrays.Target.the-variants.{Array as T
 unfoldable pub heldFor : List Value → ℕ → ℕ → (w : Ty) → Work (Of w)
 heldFor vs count a w = (variableOf vs a >>= ofType w) >>= present count w
 
+-- 27: "one choice in the iterator's class; it is the value"
 unfoldable pub classIn : List ℕ → List Value → ℕ → Work ℕ
 classIn ps vs a = inClass ps vs a
 
@@ -40,7 +41,7 @@ unfoldable pub storedIn : List ℕ → ℕ → ℕ → ℕ → Work ℕ
 storedIn cells start size i =
     if ltb i size then (if ltb (start + i) (length cells) then give (getD cells (start + i) 0) else wrong) else wrong
 
--- a place of a reduced array, by 28
+-- 28: "a tracked place reads the cell of its class; any other takes one choice, any number"
 unfoldable pub trackedIn : List ℕ → List ℕ → ℕ → ℕ → ℕ → Work ℕ
 trackedIn ps cells start len p = if tracked ps p then storedIn cells start (class ps len) (class ps p) else choose (λ v. true)
 
@@ -57,7 +58,7 @@ loadOf m ps rs cells p = do
   r ← arrayOf rs (p .array)
   if ltb (p .place) (r .len) then readOf m ps cells (r .start) (r .len) (r .reduced) (p .place) else fail
 
--- 26 and 29
+-- 26 and 29: "is true when there is an array and the place is below its length"
 unfoldable pub validIn : List Array → ℕ → ℕ → Work Bool
 validIn rs r p = isValid rs r p
 

@@ -40,11 +40,11 @@ range x y = record { from = x; upto = y }
 unfoldable pub twoOf : Out ℕ → Work ℕ → Out Range
 twoOf o m = next o (λ x ds. next (m ds) (λ y. give (range x y)))
 
--- nodes b and c, both below n
+-- "Row 38 works out start and end": nodes b and c, both below n
 abbrev pub boundsOf : Lent → ℕ → ℕ → ℕ → Work Range
 boundsOf e n b c cs = twoOf (operand e uint n b cs) (operand e uint n c)
 
--- a choice in the class of x and one in the class of y
+-- 42: "a choice in the class of start, then one in the class of end"
 abbrev pub inClassOf : List ℕ → ℕ → Work ℕ
 inClassOf ps x = choose (λ v. eqb (class ps v) (class ps x))
 
@@ -89,6 +89,7 @@ iterSort c = if c then 4 else 2
 abbrev pub iterNumber : List ℕ → Bool → ℕ → ℕ
 iterNumber ps c x = if c then class ps x else x
 
+-- 38 "sets the iterator to start"; at 42 "the iterator gets the class of start"
 abbrev pub iterOf : List ℕ → Bool → ℕ → Value
 iterOf ps c x = if c then Class (class ps x) else Uint x
 
@@ -96,6 +97,7 @@ iterOf ps c x = if c then Class (class ps x) else Uint x
 abbrev pub outer : Machine → ℕ → List Loop
 outer m n = loopsOf n (m .«loop_rows») (m .starts) (m .ends)
 
+-- 38 and 42: "goes past its end row"; 39 goes to the next row (R14)
 abbrev pub outBy : Bool → ℕ → Table → ℕ → Work ℕ
 outBy again here t r = if again then give (suc here) else pastEnd t r
 

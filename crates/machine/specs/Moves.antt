@@ -28,6 +28,7 @@ endedOf BadChoice = OBad
 endedOf NoChoice = ONone
 endedOf Stuck = OStuck
 
+-- "002 sends assert and assume to one failure; here they differ."
 abbrev pub testRow : Bool → Row
 testRow true = assume
 testRow false = assert

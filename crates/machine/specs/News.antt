@@ -14,7 +14,7 @@ abbrev pub arrayRow : Bool → Row
 arrayRow true = reducedArray
 arrayRow false = array
 
--- the cells of an array of a length
+-- of a reduced array "its cells are as many as the class of that length"; of a plain one, as many as its length
 abbrev pub sizeFor : List ℕ → ℕ → Bool → ℕ
 sizeFor ps len reduced = if reduced then class ps len else len
 

@@ -42,7 +42,7 @@ outcomeOut on l OStuck = stuck
 abbrev pub moveOut : List ℕ → Frame → Machine → List ℕ → List ℕ → Outcome → Out Move
 moveOut t f m cells l o = outcomeOut (to (stateOf t f m cells)) l o
 
--- a row that does not go on changes nothing
+-- "A step that ends a run counts and changes nothing else in the record or the cells"
 unfoldable pub Still : Outcome → Type 0 → Type 0
 Still (Goes at) same = Unit {0}
 Still (AssertFalse at) same = same
@@ -67,7 +67,7 @@ pub record Write : Type 0 where
 abbrev pub writeTo : Ptr → ℕ → Write
 writeTo p x = record { place = p; number = x }
 
--- nodes a and b, both below n
+-- "Row 34 works out both operands, then tests the cell.": nodes a and b, both below n
 unfoldable pub bothOf : Lent → ℕ → ℕ → ℕ → Work Write
 bothOf e n a b = do
   p ← operand e pointer n a
@@ -131,12 +131,12 @@ spotIn start size i = if ltb i size then give (onCell (start + i)) else wrong
 unfoldable pub spotAt : List ℕ → ℕ → Array → Work Landing
 spotAt ps v r = if ltb v (r .len) then spotIn (r .start) (sizeOf ps r) v else fail
 
--- ... and by 40, which drops the write to a place that has no cell
+-- ... and by 40: "a tracked place is written, any other write is dropped"
 unfoldable pub spotKept : List ℕ → Array → ℕ → Work Landing
 spotKept ps r v =
     if ltb v (r .len) then (if keeps ps r v then spotIn (r .start) (sizeOf ps r) (indexOf ps r v) else give nowhere) else fail
 
--- the place that 40 writes to, for a pointer to place p
+-- the place that 40 writes to, for a pointer to place p: on a reduced array "one choice in the class of the place"
 unfoldable pub placeOf : List ℕ → Bool → ℕ → Work ℕ
 placeOf ps reduced p = if reduced then choose (λ v. eqb (class ps v) (class ps p)) else give p
 

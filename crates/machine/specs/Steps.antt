@@ -10,6 +10,8 @@ use Rattle.machine.specs.declared.frame.Frame.{Frame}
 use Rattle.machine.specs.View.{tableFor}
 use Rattle.machine.specs.Loops.{BoolsFit}
 
+-- "Declarations come first (at most 32), then nodes (1,024), then instruction rows (256)"; "at most 16 arrays"; by 11 ("loop inside eight") at
+-- most eight open loops; bools that 15 does not refuse
 pub record Within (t : List ℕ) (f : Frame) (m : Machine) (cells : List ℕ) : Type 0 where
   pub decls : f .decls ≤ 32
   pub nodes : f .nodes ≤ 1024

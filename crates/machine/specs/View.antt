@@ -73,10 +73,12 @@ arraysOf count firsts lengths shapes = tab count (arrayIn firsts lengths shapes)
 abbrev pub loopIn : List ℕ → List ℕ → List ℕ → ℕ → Loop
 loopIn rows starts ends i = record { row = getD rows i 0; start = getD starts i 0; end = getD ends i 0 }
 
+-- "An open loop keeps its row, start and end"
 unfoldable pub loopsOf : ℕ → List ℕ → List ℕ → List ℕ → List Loop
 loopsOf n rows starts ends = tab n (λ i. loopIn rows starts ends (n - suc i))
 
--- ---- the record, with the cells lent beside it, for the words of a table
+-- ---- "Each step takes the machine record and hands back the next one: row, open loops, variables, arrays", with "cells lent beside it", for the
+-- words of a table. Slots that are not in use are no part of it (R25)
 abbrev pub stateOf : List ℕ → Frame → Machine → List ℕ → State
 stateOf t f m cells = record {
   row = m .row;

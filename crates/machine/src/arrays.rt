@@ -1,4 +1,5 @@
 // The arrays: the one that a pointer points to, its cells, and whether a place is in it.
+// What is public here is for our crates above, which see to what it requires.
 use crate::answers::Answer;
 use crate::answers::any_choice;
 use crate::frame::Frame;

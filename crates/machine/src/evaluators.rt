@@ -1,6 +1,7 @@
 // The three evaluators, in a cycle: each is the model's own `eval` for the type that its user takes. `user` is the number that the node must
-// be below: its user's own, or the number of nodes for a row. It falls at every call, to the number of the node that is worked out.
-// An answer is taken apart and made anew, which is quicker than to hand it on whole.
+// be below: its user's own, or the number of nodes for a row. It falls at every call, to the number of the node that is worked out; but
+// `uint_of`, which answers a constant or a variable at once, hands any other node on to `uint_at` as it is.
+// An answer is taken apart and made anew, which is quicker than to hand it on whole. For our crates above, which see to what is required.
 // t holds the words of the table; ns and bs are the columns of the variables (numbers, bases), fs, ls and hs those of the `count` arrays
 // (firsts, lengths, shapes).
 use crate::answers::Answer;

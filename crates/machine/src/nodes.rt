@@ -1,4 +1,4 @@
-// A node's line, taken apart by its kind.
+// A node's line, taken apart by its kind. For our crates above, which see to what is required.
 use crate::frame::Frame;
 use lists::word_or_zero;
 ghost use mathlib.Core.Path.{_≡_};

@@ -12,7 +12,7 @@ ghost use Rattle.machine.specs.View.{places, tableFor, stateOf};
 ghost use Rattle.machine.specs.Rows.{moveOut, Unmoved};
 ghost use Rattle.machine.specs.Steps.{Within};
 
-// Word i of a row: its kind or an operand.
+// Word i of a row: its kind or an operand. For our crates above, which see to what is required here.
 pub fn row_word(t: &[u32], f: Frame, row: u32, i: usize) -> u32
     requires { ⌜ (f .decls ≤ 32) × (f .nodes ≤ 1024) × (i ≤ 3) ⌝ }
     ensures { λ r. ⌜ r ≡ getD (now (t .entry)) (4 * (f .decls + f .nodes + row) + i) 0 ⌝ }
@@ -22,7 +22,7 @@ pub fn row_word(t: &[u32], f: Frame, row: u32, i: usize) -> u32
 }
 
 impl Machine {
-    // One step of a run. For `run`, which sees to what is required here.
+    // One step of a run. For the loops of the runs and of the choice writer, which see to what is required here.
     pub fn step(
         mut self,
         t: &[u32],

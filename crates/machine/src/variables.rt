@@ -1,4 +1,5 @@
 // What a variable holds, from its declaration, its number and its base.
+// What is public here is for our crates above, which see to what it requires.
 use crate::answers::Answer;
 use crate::answers::choice_in;
 use crate::frame::Frame;

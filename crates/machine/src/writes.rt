@@ -9,6 +9,7 @@ use crate::evaluators::uint_at;
 use crate::frame::Frame;
 use crate::frame::class_in;
 use crate::frame::is_tracked;
+use crate::news::size_for;
 use crate::rows::Outcome;
 use crate::rows::Stepped;
 ghost use mathlib.Core.Path.{_≡_};
@@ -16,7 +17,7 @@ ghost use Prim.Native.Nat.{_<_, _≤_};
 ghost use lib.ListN.{drop};
 ghost use Rattle.model.specs.Table.Ty.{uint};
 ghost use Rattle.model.specs.Table.Row.{store, reducedStore};
-ghost use Rattle.model.specs.Eval.{ptr, sizeOf};
+ghost use Rattle.model.specs.Eval.{ptr};
 ghost use Rattle.model.specs.Step.{made, rowRule};
 ghost use Rattle.machine.specs.View.{places, tableFor, stateOf, arraysOf, lent, outOf};
 ghost use Rattle.machine.specs.Rows.{moveOut, Unmoved, bothOf, bothOut, endedBoth, outcomeOf, spotOut, Spots, spotEnd, spotIn, spotAt, spotKept, placeOf, aimOf, aimReduced, aimBy, Puts, Unwritten, Writes};
@@ -105,16 +106,6 @@ fn spot_end(x: Answer) -> Spot
     }
 }
 
-// How many cells an array has.
-fn size_in(f: Frame, start: u32, len: u32, reduced: bool) -> u32
-    ensures { λ r. ⌜ r ≡ sizeOf (places f) (made start len reduced) ⌝ }
-{
-    if reduced {
-        return class_in(f, len);
-    }
-    len
-}
-
 // Cell i of an array of so many cells, laid from start on.
 fn spot_in(start: u32, size: u32, i: u32, at: usize) -> Spot
     ensures { λ r. ⌜ Spots at r (spotIn start size i) ⌝ }
@@ -132,7 +123,7 @@ fn spot_at(f: Frame, start: u32, len: u32, reduced: bool, v: u32, at: usize) -> 
     if len <= v {
         return Spot::Fails(at);
     }
-    let size = size_in(f, start, len, reduced);
+    let size = size_for(f, len, reduced);
     spot_in(start, size, v, at)
 }
 

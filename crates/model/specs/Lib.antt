@@ -1,4 +1,4 @@
--- What document 01 says, in its words. Each definition cites its sentence; R1, R2, .. are the readings of docs/DECISIONS.md.
+-- What document 01 says, in its words. A definition cites its sentence where there is one; R1, R2, .. are the readings of docs/DECISIONS.md.
 pub mod Class
 pub mod Table
 pub mod Work

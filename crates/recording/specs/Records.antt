@@ -20,7 +20,7 @@ use Rattle.machine.specs.View.{tableFor, Lent, varsIn, arraysIn, tableIn, outOf
 use Rattle.machine.specs.Leaves.{heldFor}
 use Rattle.recording.specs.Pushes.{Pushed, pushed, pushAll}
 
--- which of so many arrays the reduced run holds reduced: a 1 in the column says it
+-- which of so many arrays the reduced run holds reduced: a 1 in the column says it (R28)
 unfoldable pub heldOf : ℕ → List ℕ → List Bool
 heldOf count held = tab count (λ i. eqb (getD held i 0) 1)
 

@@ -18,7 +18,7 @@ use Rattle.recording.specs.declared.rows.Numbers.the-variants.{Count, St
 use Rattle.recording.specs.Pushes.{Pushed, pushed, pushAll}
 use Rattle.recording.specs.Records.{heldOf, pairOf}
 
--- what comes to no end with no choices: stuck, "the outcome that is no end", or for want of a choice, which no plain step takes
+-- what comes to no end with no choices: stuck, "an outcome that is no end", or for want of a choice, which no plain step takes
 abbrev pub NoEnd : Out Move → Type 0
 NoEnd (gives m cs) = ⊥
 NoEnd (fails cs) = ⊥

@@ -1,6 +1,6 @@
 // The recording evaluators, in a cycle as the machine's: each works out a node of the plain machine for the type that its user takes, and
 // pushes the node's numbers onto `out` from the place `at` on; the place in its answer is the one after them. `user` is the number that the
-// node must be below; it falls at every call. A node of a kind that only reduced tables have (27 to 29) records nothing.
+// node must be below; it falls at every call but that of `record_operand` to `record_uint`. A node of a kind that only reduced tables have (27 to 29) records nothing.
 // cs are the cells; the columns are named as in the machine's evaluators, and ks says of each array whether the reduced run holds it reduced,
 // by a 1.
 use crate::leaves::placed;

@@ -329,7 +329,8 @@ fn repeat_numbers(m: Machine, t: &[u32], out: &mut [u32], f: Frame) -> Numbers
     Numbers::Count(n)
 }
 
-// The numbers of the row where the record stands. For the choice writer, which sees to what is required here.
+// The numbers of the row where the record stands; where the row comes to no end, what the buffer holds is left free. For the choice writer,
+// which sees to what is required here.
 pub fn step_numbers(
     m: Machine,
     t: &[u32],

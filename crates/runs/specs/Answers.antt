@@ -31,17 +31,17 @@ saidBy (Refused number place) cells said = refusal number place cells
 abbrev pub saidOf : List ℕ → Frame → List ℕ → Answered → List ℕ → Said
 saidOf t f l a cells = saidBy (a .verdict) cells (reports (reportOf t f l (a .ran) cells) (a .ran .used))
 
--- a run of the model
+-- what a run of the model says: its report and the choices used
 abbrev pub ranSaid : List ℕ → Report → Said
 ranSaid l report = reports report (choicesUsed l report)
 
--- a fresh run: a refusal leaves the cells as they were lent; a run starts with cells of its own, all zero
+-- "A fresh run has a fresh record and its own zeroed cells" (R21); a refusal leaves the cells as they were lent
 unfoldable pub freshSaid : MachineKind → ℕ → ℕ → List ℕ → List ℕ → List ℕ → ℕ → Said
 freshSaid m c1 c2 t cells l limit =
     let ps = placesOf m c1 c2 in
     saidBy (runChecks m c1 c2 t (length cells)) cells (ranSaid l (run ps (tableOf t) limit 0 (fresh ps m (tableOf t)) l))
 
--- a run from the state s, which has the record and the lent cells: 15 comes last
+-- a run from the state s, which has the record and the lent cells: "any record that 15 doesn't refuse and any numbers in its cells"; 15 comes last
 unfoldable pub continuedSaid : MachineKind → ℕ → ℕ → List ℕ → State → List ℕ → ℕ → Said
 continuedSaid m c1 c2 t s l limit =
     let v = andThen (runChecks m c1 c2 t (length (s .cells))) (recordCheck m c1 c2 (tableOf t) s) in

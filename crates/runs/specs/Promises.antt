@@ -21,7 +21,7 @@ abbrev pub SaysEnd : MachineKind → ℕ → ℕ → Table → Said → Type 0
 SaysEnd m c1 c2 t (refusal number place cells) = Unit {0}
 SaysEnd m c1 c2 t (reports report used) = EndsWell m c1 c2 t report
 
--- "no run of P or Q, fresh or continued, under any limit and any choices, meets an operand of the wrong kind or a cell outside its memory":
+-- Demand 3: "no run of P or Q, fresh or continued, under any limit and any choices, meets an operand of the wrong kind or a cell outside its memory":
 -- whatever `run_plain` and `run_reduced` say, of places and choices of 32 bits
 abbrev pub FreshEnds : Type 0
 FreshEnds =

@@ -46,7 +46,7 @@ holdsClass c1 c2 (Uint n) = false
 holdsClass c1 c2 (Class k) = classHeld c1 c2 k
 holdsClass c1 c2 (Pointer r p) = false
 
--- "a variable not of its type", "a pointer to no such array" (a place may be any, R18, R25); there are so many arrays
+-- "a variable not of its type", "a pointer to no such array" (a place may be any, R18, R25); `count` is how many arrays the record has
 abbrev pub ofTheType : ℕ → Ty → Value → Bool
 ofTheType count bool (Truth b) = true
 ofTheType count bool (Uint n) = false
@@ -61,6 +61,7 @@ ofTheType count pointer (Uint n) = false
 ofTheType count pointer (Class k) = false
 ofTheType count pointer (Pointer r p) = leb r count
 
+-- variable i breaks none of these
 abbrev pub variableFits : MachineKind → ℕ → ℕ → Table → State → ℕ → Bool
 variableFits m c1 c2 t s i =
     if classed m t i
@@ -95,6 +96,6 @@ unfoldable pub recordFits : MachineKind → ℕ → ℕ → Table → State → 
 recordFits m c1 c2 t s =
     rowWithin t s && (loopsAround t s && (startsWithin (s .loops) && (variablesFit m c1 c2 t s && arraysFit m c1 c2 s)))
 
--- 15, at place 0
+-- 15: "a continued record that the table can't have", at place 0
 abbrev pub recordCheck : MachineKind → ℕ → ℕ → Table → State → Verdict
 recordCheck m c1 c2 t s = if recordFits m c1 c2 t s then Passes else Refused 15 0

@@ -28,7 +28,7 @@ pub record Ready (t : List ℕ) (f : Frame) (m : Machine) (cells : List ℕ) : T
   pub regular : Regular (places f) (kindOf f) (tableFor t f) (stateOf t f m cells)
   pub room : length cells ≤ 4294967295
 
--- the ends, each the model's
+-- "done; assert false; assume false; fail; want of cells (or a 17th array); out of steps; choice not allowed; no choice left"
 abbrev pub endOf : End → ModelEnd
 endOf Code.Done = done
 endOf Code.AssertFalse = assertFalse
@@ -46,8 +46,9 @@ reportOf t f l r cells = ended (endOf (r .end)) (r .steps) (stateOf t f (r .mach
 abbrev pub ran : End → ℕ → ℕ → Machine → Ran
 ran e n at m = record { end = e; steps = n; used = at; machine = m }
 
--- A row that does not go on, after n steps, with the next choice at `at`: "A step that ends a run counts"; "The last three ends don't count
--- their step or its choices." (R13) No step of a run is stuck, so what stands there is never handed back.
+-- A row that does not go on, after n steps, with the next choice at `at`: "A step that ends a run counts"; "its used choices
+-- count"; "The last three ends don't count their step or its choices." (R13) No step of a run is stuck, and none that goes on is asked of, so what
+-- stands there is never handed back.
 abbrev pub stoppedOf : Outcome → ℕ → ℕ → Machine → Ran
 stoppedOf (Goes next) n at m = ran Code.Fail n at m
 stoppedOf (AssertFalse next) n at m = ran Code.AssertFalse (suc n) next m

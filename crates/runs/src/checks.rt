@@ -75,7 +75,7 @@ pub fn check_run(t: &[u32], cells: &[u32], classes: bool, c1: u32, c2: u32) -> V
 }
 
 // A refusal.
-pub fn refused(verdict: Verdict) -> Answered
+pub(crate) fn refused(verdict: Verdict) -> Answered
     ensures { λ r. ⌜ r .verdict ≡ verdict ⌝ }
 {
     let machine = Machine {

@@ -1,3 +1,5 @@
+-- The cases are counted.
+-- Assumes nothing.
 use borrow.Author.Needs.{needs}
 use Prim.Native.Nat.{_-_}
 use Rattle.checked_files.proofs.main.Statement.{statement}

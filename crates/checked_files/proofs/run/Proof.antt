@@ -1,3 +1,5 @@
+-- The case fits its buffer.
+-- Assumes nothing.
 use lib.ListN.{length-take}
 use native.Mathlib.Omega.{arith}
 use borrow.Author.Needs.{needs}

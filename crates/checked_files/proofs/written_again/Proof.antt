@@ -1,3 +1,5 @@
+-- The bytes fit their buffer.
+-- Assumes nothing.
 use lib.ListN.{length-take}
 use native.Mathlib.Omega.{arith}
 use borrow.Author.Needs.{needs}

@@ -12,7 +12,7 @@ returns c = record { spotted = λ l. rw (le-ltb _ _ (c .if1 .taken)) }
 
 returns-2 : tie.Need-returns-2
 unfolding spotAt
-returns-2 c = record { spotted = λ l. rw (lt-ltb _ _ (c .before .before .if1 .left), ← c .before .size-in .ensures) (c .spot-in .ensures .spotted l) }
+returns-2 c = record { spotted = λ l. rw (lt-ltb _ _ (c .before .before .if1 .left), ← c .before .size-for .ensures) (c .spot-in .ensures .spotted l) }
 
 pub spot-at-spec : {M : Type 1} → statement M
 spot-at-spec = tie.close (tie.spec returns (λ c κs. search needs) (λ c κs. search needs) returns-2)

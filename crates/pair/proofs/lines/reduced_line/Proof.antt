@@ -1,0 +1,39 @@
+-- The reduction passes the checks of its run, so that the line is the report's.
+-- Assumes nothing.
+use mathlib.Core.Path.{refl}
+use Rattle.pair.proofs.LineLaws.{reduced-said}
+use borrow.Author.Needs.{needs}
+use Rattle.pair.proofs.lines.reduced_line.Statement.{statement}
+use Rattle.pair.proofs.lines.reduced_line.Tie as tie
+
+reduce-table-requires : tie.Need-reduce-table-requires
+reduce-table-requires c κs = search needs
+
+slice-aggregate-run-reduced : tie.Need-slice-aggregate-run-reduced
+slice-aggregate-run-reduced c = search needs
+
+run-reduced-requires : tie.Need-run-reduced-requires
+run-reduced-requires c κs = search needs
+
+line-of-requires : tie.Need-line-of-requires
+line-of-requires c κs = search needs
+
+same-length : tie.Need-same-length
+same-length c = search needs
+
+returns : tie.Need-returns
+returns c = let g = c .before .before .before .before .before .before .before .before .before .before .before .before .before .args in let k = c .line-of .ensures in let p = c .before .before .before .before .before .before .before .before .before .before .before .before .before .pre in
+    reduced-said (g .t .now) (g .lent .now) _ _ _ (g .list .now) (g .c1) (g .c2) (g .limit) (c .before .before .before .run-reduced .result) (c .line-of .result)
+    (p .0) (p .1) (p .2) (c .before .before .before .before .before .before .before .before .reduce-table .ensures .1) refl (c .before .before .before .run-reduced .ensures)
+    (record { end = k .0; row = k .1; steps = k .2; used = k .3 })
+
+pub reduced-line-spec : {M : Type 1} → statement M
+reduced-line-spec =
+    tie.close
+    (tie.spec
+    reduce-table-requires
+    slice-aggregate-run-reduced
+    run-reduced-requires
+    line-of-requires
+    same-length
+    returns)

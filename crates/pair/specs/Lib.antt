@@ -1,0 +1,2 @@
+-- The pair of runs: what an input is answered.
+pub mod Pairs
