@@ -36,6 +36,7 @@ lines-fit bs words found n e b h =
     let ok = accepted bs 5248 n said in
     (omega (arith, lines-most bs (ok .right), ok .counted), ap length b ∙ rw said (length-tab 5248 _))
 
+-- fewer than 12 bytes; 12 and a file
 module _ (input : List ℕ) (r : Paired) where
   pub short-said : length input < 12 → r .verdict ≡ Refused 1 0 → saidOf r ≡ pairSaid input
   unfolding pairSaid

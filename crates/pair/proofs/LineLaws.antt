@@ -18,39 +18,29 @@ use Rattle.model.specs.Reduce.{reduce}
 use Rattle.model.specs.Demand3.{choicesUsed, plainRun, reducedRun}
 use Rattle.reduction.specs.Reduction.{pairCheck, reduceAnswer, reduceBuffer}
 use Rattle.machine.specs.declared.frame.Frame.{Frame}
-use Rattle.runs.specs.declared.Ran.{Ran}
 use Rattle.runs.specs.declared.Answered.{Answered}
 use Rattle.runs.specs.Steps.{endOf, reportOf}
 use Rattle.runs.specs.Checks.{frameOf, runChecks}
 use Rattle.runs.specs.Answers.{saidBy, saidOf, ranSaid, freshSaid}
 use Rattle.runs.specs.Answers.Said.{reports}
 use Rattle.pair.specs.declared.Line.{Line}
-use Rattle.pair.specs.Pairs.{lineOf, lineSaid}
+use Rattle.pair.specs.Pairs.{lineFrom, lineOf, lineSaid}
 use Rattle.pair.specs.Pairs.LineSaid.{line}
-
--- a line that was taken from what a run handed back
-pub record TakenFrom (r : Line) (ran : Ran) : Type 0 where
-  pub end : r .end ≡ ran .end
-  pub row : r .row ≡ ran .machine .row
-  pub steps : r .steps ≡ ran .steps
-  pub used : r .used ≡ ran .used
 
 -- what a run that reports said
 reported : (v : Verdict) (cells : List ℕ) (got report : Report) (n m : ℕ) → saidBy v cells (reports got n) ≡ reports report m → (got ≡ report) × (n ≡ m)
 reported Passes cells got report n m e = (cc, cc)
 reported (Refused number place) cells got report n m e = absurd (let z : _≡_ {A = ℕ} 0 1 = cc in omega numbers)
 
-line-said : (t l cells : List ℕ) (f : Frame) (a : Answered) (report : Report) (r : Line) → TakenFrom r (a .ran) → saidOf t f l a cells ≡ ranSaid l report
+-- a report has its line
+line-said : (t l cells : List ℕ) (f : Frame) (a : Answered) (report : Report) (r : Line) → r ≡ lineFrom (a .ran) → saidOf t f l a cells ≡ ranSaid l report
     → lineOf r ≡ lineSaid l report
-line-said t l cells f a report r T e =
+line-said t l cells f a report r h e =
     let got : Report = reportOf t f l (a .ran) cells in
     let said = reported (a .verdict) cells got report (a .ran .used) (choicesUsed l report) e in
-    taken
+    ap lineOf h
     ∙ ap (line (endOf (a .ran .end)) (a .ran .machine .row) (a .ran .steps)) (said .1 ∙ ap (choicesUsed l) (sym (said .0)))
     ∙ ap (lineSaid l) (said .0)
-  where
-    taken : lineOf r ≡ line (endOf (a .ran .end)) (a .ran .machine .row) (a .ran .steps) (a .ran .used)
-    taken = rw (T .end, T .row, T .steps, T .used)
 
 -- the plain run, in cells of the stated size
 plain-runs : (t cells : List ℕ) (limit : ℕ) → tableCheck plain t ≡ Passes → length cells ≡ 4096 → freshSaid plain 0 0 t cells [] limit ≡ ranSaid [] (plainRun t limit)
@@ -58,15 +48,16 @@ unfolding freshSaid runChecks
 plain-runs t cells limit p n = rw (p, eq-eqb (length cells) 4096 n)
 
 pub plain-said : (t cells cells′ : List ℕ) (limit : ℕ) (a : Answered) (r : Line) → tableCheck plain t ≡ Passes → length cells ≡ 4096
-    → saidOf t (frameOf t false 0 0) [] a cells′ ≡ freshSaid plain 0 0 t cells [] limit → TakenFrom r (a .ran) → lineOf r ≡ lineSaid [] (plainRun t limit)
-plain-said t cells cells′ limit a r p n e T =
-    line-said t [] cells′ (frameOf t false 0 0) a (plainRun t limit) r T (e ∙ plain-runs t cells limit p n)
+    → saidOf t (frameOf t false 0 0) [] a cells′ ≡ freshSaid plain 0 0 t cells [] limit → r ≡ lineFrom (a .ran) → lineOf r ≡ lineSaid [] (plainRun t limit)
+plain-said t cells cells′ limit a r p n e h =
+    line-said t [] cells′ (frameOf t false 0 0) a (plainRun t limit) r h (e ∙ plain-runs t cells limit p n)
 
 -- the reduction of a table that passes
 reduces : (w : List ℕ) (c1 c2 : ℕ) (lent : List ℕ) → tableCheck plain w ≡ Passes → pairCheck c1 c2 ≡ Passes → length lent ≡ length w → reduceBuffer w c1 c2 lent ≡ reduce w
 unfolding reduceAnswer reduceBuffer
 reduces w c1 c2 lent p q n = rw (p, q, eq-eqb (length lent) (length w) n)
 
+-- and it passes
 reduction-passes : (w : List ℕ) → tableCheck plain w ≡ Passes → tableCheck reduced (reduce w) ≡ Passes
 reduction-passes w p = passes reduced (reduce w) (passing-reduced w (passing plain w p))
 
@@ -78,9 +69,9 @@ reduced-runs Q cells l c1 c2 limit p q n = rw (p, q, eq-eqb (length cells) 4112 
 
 pub reduced-said : (w lent Q cells cells′ l : List ℕ) (c1 c2 limit : ℕ) (a : Answered) (r : Line) → tableCheck plain w ≡ Passes → pairCheck c1 c2 ≡ Passes
     → length lent ≡ length w → Q ≡ reduceBuffer w c1 c2 lent → length cells ≡ 4112
-    → saidOf Q (frameOf Q true c1 c2) l a cells′ ≡ freshSaid reduced c1 c2 Q cells l limit → TakenFrom r (a .ran) → lineOf r ≡ lineSaid l (reducedRun c1 c2 (reduce w) limit l)
-reduced-said w lent Q cells cells′ l c1 c2 limit a r p q s b n e T =
-    line-said Q l cells′ (frameOf Q true c1 c2) a (reducedRun c1 c2 Q limit l) r T (e ∙ reduced-runs Q cells l c1 c2 limit right q n)
+    → saidOf Q (frameOf Q true c1 c2) l a cells′ ≡ freshSaid reduced c1 c2 Q cells l limit → r ≡ lineFrom (a .ran) → lineOf r ≡ lineSaid l (reducedRun c1 c2 (reduce w) limit l)
+reduced-said w lent Q cells cells′ l c1 c2 limit a r p q s b n e h =
+    line-said Q l cells′ (frameOf Q true c1 c2) a (reducedRun c1 c2 Q limit l) r h (e ∙ reduced-runs Q cells l c1 c2 limit right q n)
     ∙ ap (λ (Q : List ℕ). lineSaid l (reducedRun c1 c2 Q limit l)) made
   where
     made : Q ≡ reduce w

@@ -3,6 +3,7 @@
 use mathlib.Core.Path.{_≡_, refl, sym, ap, _∙_}
 use Prim.Native.Nat.{ℕ, _+_, _≤_}
 use native.Mathlib.Omega.{arith as numbers}
+use mathlib.Core.Bool.{false}
 use mathlib.Core.List.{List, [], _++_}
 use lib.ListN.{length, take, drop, length-append}
 use lib.Seq.{take-at}
@@ -16,7 +17,7 @@ use Rattle.model.specs.Step.{Report}
 use Rattle.model.specs.Reduce.{reduce}
 use Rattle.model.specs.Demand3.{plainRun, reducedRun, writerRun}
 use Rattle.reduction.specs.Reduction.{pairCheck}
-use Rattle.machine.specs.declared.frame.Frame.{Frame}
+use Rattle.runs.specs.Checks.{frameOf}
 use Rattle.choices.specs.declared.Answered.{Answered}
 use Rattle.choices.specs.Steps.{reportOf}
 use Rattle.choices.specs.Checks.{writerChecks}
@@ -35,6 +36,7 @@ same-verdict Passes (Refused number place) cells cells′ l l′ m m′ got repo
 same-verdict (Refused number place) Passes cells cells′ l l′ m m′ got report n k e = absurd (let z : _≡_ {A = ℕ} 0 1 = cc in omega numbers)
 same-verdict (Refused number place) (Refused number′ place′) cells cells′ l l′ m m′ got report n k e = cc
 
+-- a last check that passes adds nothing
 last-passes : (v w : Verdict) → andThen v (andThen w Passes) ≡ andThen v w
 last-passes Passes Passes = refl
 last-passes Passes (Refused number place) = refl
@@ -60,12 +62,12 @@ pub record Passed (t : List ℕ) (c1 c2 limit : ℕ) (list : List ℕ) (count : 
   pub counted : take count list ≡ writtenChoices c1 c2 limit t
 
 -- an answer of the writer, which was lent cells of the stated size and a list of 8,192 words
-module _ (t : List ℕ) (c1 c2 limit : ℕ) (cells cells′ lent list : List ℕ) (f : Frame) (a : Answered)
-    (e : writer.saidOf t f a cells′ list ≡ writer.writerSaid c1 c2 t cells lent limit) (size : length cells ≡ 4096) where
+module _ (t : List ℕ) (c1 c2 limit : ℕ) (cells cells′ lent list : List ℕ) (a : Answered)
+    (e : writer.saidOf t (frameOf t false c1 c2) a cells′ list ≡ writer.writerSaid c1 c2 t cells lent limit) (size : length cells ≡ 4096) where
   verdict-is : a .verdict ≡ andThen (tableCheck plain t) (pairCheck c1 c2)
   unfolding writer.writerSaid
   verdict-is =
-      same-verdict (a .verdict) (writerChecks c1 c2 t (length cells)) cells′ cells list lent list _ (reportOf t f (a .wrote) cells′ list) _ (a .wrote .count) _ e
+      same-verdict (a .verdict) (writerChecks c1 c2 t (length cells)) cells′ cells list lent list _ (reportOf t (frameOf t false c1 c2) (a .wrote) cells′ list) _ (a .wrote .count) _ e
       ∙ checks-are c1 c2 t (length cells) size
 
   pub refused-said : {number place : ℕ} → a .verdict ≡ Refused number place → (r : Paired) → r .verdict ≡ a .verdict → saidOf r ≡ tableSaid c1 c2 limit t
@@ -82,7 +84,7 @@ module _ (t : List ℕ) (c1 c2 limit : ℕ) (cells cells′ lent list : List ℕ
 
     wrote : (a .wrote .count ≡ length written) × (list ≡ written ++ drop (length written) lent)
     wrote =
-        wrote-is (a .verdict) p cells′ list lent (reportOf t f (a .wrote) cells′ list) (writerRun c1 c2 t limit 8192) (a .wrote .count) (e ∙ passes-said)
+        wrote-is (a .verdict) p cells′ list lent (reportOf t (frameOf t false c1 c2) (a .wrote) cells′ list) (writerRun c1 c2 t limit 8192) (a .wrote .count) (e ∙ passes-said)
 
     pub passed : Passed t c1 c2 limit list (a .wrote .count)
     passed =

@@ -1,2 +1,3 @@
--- The pair of runs: what an input is answered.
+-- The pair of runs: what an input is answered, and what is proved of it.
 pub mod Pairs
+pub mod Promises

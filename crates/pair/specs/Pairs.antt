@@ -17,17 +17,18 @@ use Rattle.model.specs.Step.Report.{ended, noEnd}
 use Rattle.model.specs.Reduce.{reduce}
 use Rattle.model.specs.Demand3.{choicesUsed, plainRun, reducedRun, writerRun}
 use Rattle.reduction.specs.Reduction.{pairCheck}
+use Rattle.runs.specs.declared.Ran.{Ran}
 use Rattle.runs.specs.Steps.{endOf}
 use Rattle.choices.specs.Answers.{numbersOf}
 use Rattle.pair.specs.declared.Line.{Line}
 use Rattle.pair.specs.declared.Paired.{Paired}
 
--- what is said of a run: its end, row, steps and choices used; a run that was stuck would have no line
+-- What is said of a run: its end, row, steps and choices used. A run that was stuck would have no line, and the code has a line for each
 pub data LineSaid : Type 0 where
   line : End → ℕ → ℕ → ℕ → LineSaid
   noLine : LineSaid
 
--- "a refusal prints `refused N line L`, L being the place"; else the plain run's line and the reduced run's
+-- "a refusal prints `refused N line L`, L being the place" (R2); else the plain run's line and the reduced run's
 pub data PairSaid : Type 0 where
   refusal : ℕ → ℕ → PairSaid
   lines : LineSaid → LineSaid → PairSaid
@@ -37,6 +38,10 @@ abbrev pub saidBy : Verdict → PairSaid → PairSaid
 saidBy Passes said = said
 saidBy (Refused number place) said = refusal number place
 
+-- the code's line of a run that handed this back
+abbrev pub lineFrom : Ran → Line
+lineFrom ran = record { end = ran .end; row = ran .machine .row; steps = ran .steps; used = ran .used }
+
 -- a line and an answer of the code
 abbrev pub lineOf : Line → LineSaid
 lineOf l = line (endOf (l .end)) (l .row) (l .steps) (l .used)
@@ -44,7 +49,7 @@ lineOf l = line (endOf (l .end)) (l .row) (l .steps) (l .used)
 abbrev pub saidOf : Paired → PairSaid
 saidOf a = saidBy (a .verdict) (lines (lineOf (a .plain)) (lineOf (a .pair)))
 
--- "Row is where the run stands; then steps taken, choices used", of the list
+-- "Row is where the run stands; then steps taken, choices used", those of the list
 abbrev pub lineSaid : List ℕ → Report → LineSaid
 lineSaid list (ended e n s left) = line e (s .row) n (choicesUsed list (ended e n s left))
 lineSaid list noEnd = noLine
@@ -64,11 +69,12 @@ linesSaid c1 c2 limit P =
 unfoldable pub tableSaid : ℕ → ℕ → ℕ → List ℕ → PairSaid
 tableSaid c1 c2 limit P = saidBy (andThen (tableCheck plain P) (pairCheck c1 c2)) (linesSaid c1 c2 limit P)
 
--- by what the reader answers: the file's checks, 1 to 3, come first (R1); the table is the first words of the 5,248, four to a line
+-- by what the reader answers: the file's checks, 1 to 3, come first (R1); the table is the first of the words, four to a line
 abbrev pub readSaid : ℕ → ℕ → ℕ → Read → List ℕ → PairSaid
 readSaid c1 c2 limit (File.Refused number place) words = refusal number place
 readSaid c1 c2 limit (File.Lines n) words = tableSaid c1 c2 limit (take (4 * n) words)
 
+-- "The reader fills 5,248 words"; a file "above 22,016" bytes gets 1, so an input may be of any length (R2)
 unfoldable pub fileSaid : ℕ → ℕ → ℕ → List ℕ → PairSaid
 fileSaid c1 c2 limit file = readSaid c1 c2 limit (readAnswer file 5248) (readBuffer file (replicate 5248 0))
 

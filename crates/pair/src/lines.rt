@@ -15,14 +15,14 @@ ghost use Rattle.model.specs.State.MachineKind.{plain};
 ghost use Rattle.model.specs.Reduce.{reduce};
 ghost use Rattle.model.specs.Demand3.{plainRun, reducedRun};
 ghost use Rattle.reduction.specs.Reduction.{pairCheck};
-ghost use Rattle.pair.specs.Pairs.{lineOf, lineSaid};
+ghost use Rattle.pair.specs.Pairs.{lineFrom, lineOf, lineSaid};
 
 // The words of the longest table.
 pub(crate) const TABLE_WORDS: usize = 5248;
 
 // The line of a run.
 fn line_of(ran: Ran) -> Line
-    ensures { λ r. ⌜ (r .end ≡ ran .end) × (r .row ≡ ran .machine .row) × (r .steps ≡ ran .steps) × (r .used ≡ ran .used) ⌝ }
+    ensures { λ r. ⌜ r ≡ lineFrom ran ⌝ }
 {
     let end = ran.end;
     let machine = ran.machine;
@@ -34,7 +34,7 @@ fn line_of(ran: Ran) -> Line
     }
 }
 
-// The plain run.
+// The plain run, which is not refused.
 pub(crate) fn plain_line(t: &[u32], limit: u32) -> Line
     requires { ⌜ tableCheck plain (now t) ≡ Passes ⌝ }
     ensures { λ r. ⌜ lineOf r ≡ lineSaid [] (plainRun (now (t .entry)) limit) ⌝ }
@@ -45,7 +45,7 @@ pub(crate) fn plain_line(t: &[u32], limit: u32) -> Line
     line_of(ran)
 }
 
-// The run of the reduction, which is made in a lent table as long as the table.
+// The run of the reduction, which is made in a lent table as long as the table. Neither the reduction nor its run is refused.
 fn reduced_line(t: &[u32], c1: u32, c2: u32, lent: &mut [u32], list: &[u32], limit: u32) -> Line
     requires { ⌜ (tableCheck plain (now t) ≡ Passes) × (pairCheck c1 c2 ≡ Passes) × (length (now lent) ≡ length (now t)) ⌝ }
     ensures { λ r. ⌜ lineOf r ≡ lineSaid (now (list .entry)) (reducedRun c1 c2 (reduce (now (t .entry))) limit (now (list .entry))) ⌝ }

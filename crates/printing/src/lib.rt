@@ -44,7 +44,8 @@ pub fn print_paired(p: Paired) {
             let plain = p.plain;
             let pair = p.pair;
             print_run(b"plain ", plain);
-            print_run(b"\npair ", pair);
+            io::write_all(1, b"\n");
+            print_run(b"pair ", pair);
             print_part(b" choices ", pair.used);
         }
     }

@@ -16,9 +16,8 @@ line-of-requires : tie.Need-line-of-requires
 line-of-requires c κs = search needs
 
 returns : tie.Need-returns
-returns c = let g = c .before .before .before .before .before .before .args in let k = c .line-of .ensures in
-    plain-said (g .t .now) _ _ (g .limit) (c .before .before .before .run-plain .result) (c .line-of .result) (c .before .before .before .before .before .before .pre) refl (c .before .before .before .run-plain .ensures)
-    (record { end = k .0; row = k .1; steps = k .2; used = k .3 })
+returns c = let g = c .before .before .before .before .before .before .args in
+    plain-said (g .t .now) _ _ (g .limit) (c .before .before .before .run-plain .result) (c .line-of .result) (c .before .before .before .before .before .before .pre) refl (c .before .before .before .run-plain .ensures) (c .line-of .ensures)
 
 pub plain-line-spec : {M : Type 1} → statement M
 plain-line-spec =
