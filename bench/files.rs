@@ -5,21 +5,21 @@ const ROOM: usize = 22_541;
 const BLOCK: usize = 512;
 const BLOCK_LINES: usize = 31;
 const FILE_BYTES: usize = 22_016;
-const TABLE_WORDS: usize = 5_248;
+pub const TABLE_WORDS: usize = 5_248;
 const TABLE_LINES: u64 = 1_312;
 
-struct Refusal {
-    number: u32,
-    place: usize,
+pub struct Refusal {
+    pub number: u32,
+    pub place: usize,
 }
 
-fn refuse<T>(number: u32, place: usize) -> Result<T, Refusal> {
+pub fn refuse<T>(number: u32, place: usize) -> Result<T, Refusal> {
     Err(Refusal { number, place })
 }
 
 // The file
 
-fn word(bytes: &[u8], i: usize) -> u32 {
+pub fn word(bytes: &[u8], i: usize) -> u32 {
     u32::from_le_bytes(bytes[4 * i..4 * i + 4].try_into().unwrap())
 }
 
@@ -28,7 +28,7 @@ fn sum(words: &[u8]) -> u32 {
 }
 
 /// Checks 1 to 3; fills the words and gives the number of lines.
-fn read_file(bytes: &[u8], words: &mut [u32; TABLE_WORDS]) -> Result<usize, Refusal> {
+pub fn read_file(bytes: &[u8], words: &mut [u32; TABLE_WORDS]) -> Result<usize, Refusal> {
     if bytes.len() % BLOCK != 0 || bytes.len() > FILE_BYTES {
         return refuse(1, 0);
     }
@@ -294,7 +294,7 @@ fn check_table(words: &[u32], reduced: bool) -> Result<(), Refusal> {
 // The reduction
 
 /// Checks the table and the pair, and fills the lent words.
-fn reduce_table(words: &[u32], c1: u32, c2: u32, lent: &mut [u32]) -> Result<(), Refusal> {
+pub fn reduce_table(words: &[u32], c1: u32, c2: u32, lent: &mut [u32]) -> Result<(), Refusal> {
     check_table(words, false)?;
     if c1 as u64 + 1 >= c2 as u64 {
         return refuse(13, 0);

@@ -6,12 +6,12 @@ use std::io::{self, BufWriter, Read, Write};
 const ROOM: usize = 262_144;
 const HEAD: usize = 7;
 const FILL: u32 = 7;
-const ARRAYS: usize = 16;
+pub const ARRAYS: usize = 16;
 
 // The table, decoded
 
 #[derive(Clone, Copy)]
-enum Node {
+pub enum Node {
     Variable(usize),
     Uint(u32),
     Bool(bool),
@@ -27,7 +27,7 @@ enum Node {
 }
 
 #[derive(Clone, Copy)]
-enum Row {
+pub enum Row {
     Skip,
     Assign(usize, usize),
     Write(usize, usize),
@@ -39,21 +39,21 @@ enum Row {
 }
 
 #[derive(Clone, Copy, PartialEq)]
-enum Type {
+pub enum Type {
     Bool,
     Uint,
     Pointer,
 }
 
-struct Declaration {
-    sort: Type,
+pub struct Declaration {
+    pub sort: Type,
     marked: bool,
 }
 
-struct Table {
-    variables: Vec<Declaration>,
-    nodes: Vec<Node>,
-    rows: Vec<Row>,
+pub struct Table {
+    pub variables: Vec<Declaration>,
+    pub nodes: Vec<Node>,
+    pub rows: Vec<Row>,
 }
 
 fn node(&[kind, a, b, c]: &[u32; 4]) -> Node {
@@ -102,7 +102,7 @@ fn closes(rows: &[[u32; 4]]) -> Vec<usize> {
     closes
 }
 
-fn decode(words: &[u32]) -> Table {
+pub fn decode(words: &[u32]) -> Table {
     let (lines, _) = words.as_chunks::<4>();
     let (variables, lines) = lines.split_at(lines.iter().take_while(|l| l[0] <= 3).count());
     let (nodes, rows) = lines.split_at(lines.iter().take_while(|l| l[0] <= 29).count());
@@ -121,7 +121,7 @@ fn decode(words: &[u32]) -> Table {
 // The machine
 
 #[derive(Clone, Copy)]
-enum End {
+pub enum End {
     Done,
     Assert,
     Assume,
@@ -133,7 +133,7 @@ enum End {
 }
 
 impl End {
-    fn name(self) -> &'static str {
+    pub fn name(self) -> &'static str {
         match self {
             End::Done => "done",
             End::Assert => "assert",
@@ -148,39 +148,39 @@ impl End {
 }
 
 #[derive(Clone, Copy)]
-struct Open {
-    row: usize,
-    start: u32,
-    end: u32,
+pub struct Open {
+    pub row: usize,
+    pub start: u32,
+    pub end: u32,
 }
 
 #[derive(Clone, Copy)]
-struct Array {
-    first: usize,
-    length: u32,
-    cells: usize,
-    reduced: bool,
+pub struct Array {
+    pub first: usize,
+    pub length: u32,
+    pub cells: usize,
+    pub reduced: bool,
 }
 
 #[derive(Clone, Copy)]
-struct Pointer {
-    base: u32,
-    place: u32,
+pub struct Pointer {
+    pub base: u32,
+    pub place: u32,
 }
 
 #[derive(Clone)]
-struct Record {
-    row: usize,
-    loops: Vec<Open>,
-    numbers: [u32; 32],
-    bases: [u32; 32],
-    arrays: Vec<Array>,
+pub struct Record {
+    pub row: usize,
+    pub loops: Vec<Open>,
+    pub numbers: [u32; 32],
+    pub bases: [u32; 32],
+    pub arrays: Vec<Array>,
 }
 
 #[derive(Clone, Copy)]
-struct Pair {
-    c1: u32,
-    c2: u32,
+pub struct Pair {
+    pub c1: u32,
+    pub c2: u32,
 }
 
 impl Pair {
@@ -188,18 +188,18 @@ impl Pair {
         (v >= self.c1) as u32 + (v > self.c1) as u32 + (v >= self.c2) as u32 + (v > self.c2) as u32
     }
 
-    fn tracks(self, v: u32) -> bool {
+    pub fn tracks(self, v: u32) -> bool {
         v == self.c1 || v == self.c2
     }
 }
 
-struct Machine<'a> {
-    table: &'a Table,
-    pair: Pair,
-    record: &'a mut Record,
-    cells: &'a mut [u32],
-    list: &'a [u32],
-    used: usize,
+pub struct Machine<'a> {
+    pub table: &'a Table,
+    pub pair: Pair,
+    pub record: &'a mut Record,
+    pub cells: &'a mut [u32],
+    pub list: &'a [u32],
+    pub used: usize,
 }
 
 impl Machine<'_> {
@@ -388,7 +388,7 @@ impl Machine<'_> {
         Ok(())
     }
 
-    fn run(&mut self, limit: u32) -> (End, u32) {
+    pub fn run(&mut self, limit: u32) -> (End, u32) {
         let mut steps = 0;
         while self.record.row < self.table.rows.len() {
             if steps == limit {
@@ -408,7 +408,7 @@ impl Machine<'_> {
     }
 }
 
-fn fresh(table: &Table, reduced: bool, pair: Pair) -> Record {
+pub fn fresh(table: &Table, reduced: bool, pair: Pair) -> Record {
     let mut numbers = [0; 32];
     for (n, v) in numbers.iter_mut().zip(&table.variables) {
         if reduced && v.marked && v.sort == Type::Uint {
