@@ -14,10 +14,11 @@ use Rattle.model.specs.Table.Ty.{bool, uint, pointer}
 use Rattle.model.specs.Table.Row.{skip, assign, store, assert, assume, array, loop, loopEnd, reducedStore, reducedArray, classLoop, noRow}
 use Rattle.model.specs.Work.{Out, Work, next, give, wrong, choose}
 use Rattle.model.specs.Work.Out.{gives, fails, badChoice, noChoice, stuck}
-use Rattle.model.specs.State.{Value, Array, Loop, State, sortOf, mostArrays}
+use Rattle.model.specs.State.{Value, Array, Loop, State, formOf, mostArrays}
 use Rattle.model.specs.State.Value.{Uint, Class, Pointer}
-use Rattle.model.specs.Eval.{Ptr, arrayOf, variableOf, value, keeps, indexOf, sizeOf, used, add}
-use Rattle.model.specs.Step.{End, Move, past, node, setVar, withVar, withLoops, enter, put, write, reducedWrite, laidNext, addArray, newArray, loopAt, repeatLoop, rowRule, stepAt, step, pastEnd}
+use Rattle.model.specs.Eval.{Ptr, arrayOf, variableOf, value, keeps, indexOf, sizeOf, cellsLaid, add}
+use Rattle.model.specs.Step.{End, Move, past, node, setVar, withVar, withLoops, enter, put, write, reducedWrite, laidNext, addArray, newArray, loopAt}
+use Rattle.model.specs.Step.{repeatLoop, rowRule, stepAt, step, pastEnd}
 use Rattle.model.specs.Step.End.{assertFalse, assumeFalse, wantOfCells}
 use Rattle.model.specs.Step.Move.{to, stop}
 
@@ -64,8 +65,8 @@ module _ (s : State) (a : ℕ) (v : Value) (n : ℕ) (k : State → Work Move) (
       one true cs = h cs
       one false cs = tt
 
-      go : (o : Out Value) → Keeps n (next (next o (λ old. if eqb (sortOf v) (sortOf old) then give (withVar s a v) else wrong)) k)
-      go (gives old cs) = one (eqb (sortOf v) (sortOf old)) cs
+      go : (o : Out Value) → Keeps n (next (next o (λ old. if eqb (formOf v) (formOf old) then give (withVar s a v) else wrong)) k)
+      go (gives old cs) = one (eqb (formOf v) (formOf old)) cs
       go (fails cs) = tt
       go badChoice = tt
       go noChoice = tt
@@ -79,7 +80,8 @@ module _ (ps : List ℕ) (t : Table) (s : State) where
   keep-put r i x cs = keep-if same (ltb i (sizeOf ps r)) _ wrong cs (keep-if same (ltb (r .start + i) (length (s .cells))) _ wrong cs refl tt) tt
 
   keep-write : (p : Ptr) (x : ℕ) (cs : List ℕ) → Keeps same (write ps s p x cs)
-  keep-write p x cs = keep-next same (arrayOf (s .arrays) (p .array) cs) _ (λ r cs. keep-if same (ltb (p .place) (r .len)) (put ps s r (p .place) x) _ cs (keep-put r (p .place) x cs) tt)
+  keep-write p x cs = keep-next same (arrayOf (s .arrays) (p .array) cs) _
+      (λ r cs. keep-if same (ltb (p .place) (r .len)) (put ps s r (p .place) x) _ cs (keep-put r (p .place) x cs) tt)
 
   keep-reduced : (p : Ptr) (x : ℕ) (cs : List ℕ) → Keeps same (reducedWrite ps s p x cs)
   keep-reduced p x cs =
@@ -88,7 +90,8 @@ module _ (ps : List ℕ) (t : Table) (s : State) where
       (λ v cs. keep-if same (ltb v (r .len)) (if keeps ps r v then put ps s r (indexOf ps r v) x else give (to (past s))) _ cs
       (keep-if same (keeps ps r v) (put ps s r (indexOf ps r v) x) _ cs (keep-put r (indexOf ps r v) x cs) refl) tt))
 
-  keep-enter : (s′ : State) → length (s′ .arrays) ≡ same → (r : ℕ) (v : Value) (from upto : ℕ) (out : Work ℕ) (cs : List ℕ) → Keeps same (enter t s′ r v from upto out cs)
+  keep-enter : (s′ : State) → length (s′ .arrays) ≡ same → (r : ℕ) (v : Value) (from upto : ℕ) (out : Work ℕ) (cs : List ℕ)
+      → Keeps same (enter t s′ r v from upto out cs)
   keep-enter s′ e r v from upto out cs =
       keep-set s′ (rowAt t r .a) v same _ (λ cs. keep-if same (leb from upto) _ _ cs e (keep-next same (out cs) _ (λ q cs. e))) cs
 
@@ -110,20 +113,24 @@ module _ (ps : List ℕ) (t : Table) (s : State) where
 
   keep-repeat : (ls : List Loop) (cs : List ℕ) → Keeps same (repeatLoop ps t s ls cs)
   keep-repeat [] cs = tt
-  keep-repeat (l ∷ ls) cs = keep-next same (add (l .start) 1 cs) _ (λ x cs. keep-loop (withLoops s ls) refl (l .row) (rowKind (rowAt t (l .row) .kind)) x (l .end) (give (suc (s .row))) cs)
+  keep-repeat (l ∷ ls) cs = keep-next same (add (l .start) 1 cs) _
+      (λ x cs. keep-loop (withLoops s ls) refl (l .row) (rowKind (rowAt t (l .row) .kind)) x (l .end) (give (suc (s .here .row))) cs)
 
   one-more : (s′ : State) → length (s′ .arrays) ≡ same → (n : ℕ) (f : Bool) (cs : List ℕ) → Keeps (suc same) (gives (addArray ps s′ n f) cs)
   one-more s′ e n f cs =
       let z = length-append (s′ .arrays) (laidNext ps s′ n f ∷ []) in
-      go (leb mostArrays (length (s′ .arrays))) (leb (used ps (s′ .arrays) + sizeOf ps (laidNext ps s′ n f)) (length (s′ .cells))) _ (omega (numbers, e, z))
+      go (leb mostArrays (length (s′ .arrays))) (leb (cellsLaid ps (s′ .arrays) + sizeOf ps (laidNext ps s′ n f)) (length (s′ .cells))) _
+          (omega (numbers, e, z))
     where
-      go : (b c : Bool) (s″ : State) → length (s″ .arrays) ≡ suc same → Keeps (suc same) (gives (if b then stop wantOfCells else (if c then to s″ else stop wantOfCells)) cs)
+      go : (b c : Bool) (s″ : State) → length (s″ .arrays) ≡ suc same
+          → Keeps (suc same) (gives (if b then stop wantOfCells else (if c then to s″ else stop wantOfCells)) cs)
       go true c s″ l = tt
       go false true s″ l = l
       go false false s″ l = tt
 
   keep-new : (a n : ℕ) (f : Bool) (cs : List ℕ) → Keeps (suc same) (newArray ps s a n f cs)
-  keep-new a n f cs = keep-set s a (Pointer (suc (length (s .arrays))) 0) (suc same) _ (λ cs. one-more (withVar s a (Pointer (suc (length (s .arrays))) 0)) refl n f cs) cs
+  keep-new a n f cs = keep-set s a (Pointer (suc (length (s .arrays))) 0) (suc same) _
+      (λ cs. one-more (withVar s a (Pointer (suc (length (s .arrays))) 0)) refl n f cs) cs
 
   keep-test : (b : Bool) (e : End) (cs : List ℕ) → Keeps same (gives (if b then to (past s) else stop e) cs)
   keep-test true e cs = refl
@@ -139,15 +146,18 @@ module _ (ps : List ℕ) (t : Table) (s : State) where
   row-arrays n array a b c cs = keep-next (suc same) (node ps t s uint b cs) _ (λ l cs. keep-new a l false cs)
   row-arrays n loop a b c cs =
       keep-next same (node ps t s uint b cs) _ (λ x cs. keep-next same (node ps t s uint c cs) _ (λ y cs. keep-loop s refl n loop x y (pastEnd t n) cs))
-  row-arrays n loopEnd a b c cs = keep-repeat (s .loops) cs
-  row-arrays n reducedStore a b c cs = keep-next same (node ps t s pointer a cs) _ (λ p cs. keep-next same (node ps t s uint b cs) _ (λ x cs. keep-reduced p x cs))
+  row-arrays n loopEnd a b c cs = keep-repeat (s .here .loops) cs
+  row-arrays n reducedStore a b c cs = keep-next same (node ps t s pointer a cs) _
+      (λ p cs. keep-next same (node ps t s uint b cs) _ (λ x cs. keep-reduced p x cs))
   row-arrays n reducedArray a b c cs = keep-next (suc same) (node ps t s uint b cs) _ (λ l cs. keep-new a l true cs)
   row-arrays n classLoop a b c cs =
       keep-next same (node ps t s uint b cs) _ (λ x cs. keep-next same (node ps t s uint c cs) _ (λ y cs. keep-loop s refl n classLoop x y (pastEnd t n) cs))
   row-arrays n noRow a b c cs = tt
 
-  pub step-arrays : (cs : List ℕ) {cs′ : List ℕ} {s′ : State} → step ps t s cs ≡ gives (to s′) cs′ → length (s′ .arrays) ≡ arraysAfter (rowKind (rowAt t (s .row) .kind)) same
+  pub step-arrays : (cs : List ℕ) {cs′ : List ℕ} {s′ : State} → step ps t s cs ≡ gives (to s′) cs′
+      → length (s′ .arrays) ≡ arraysAfter (rowKind (rowAt t (s .here .row) .kind)) same
   unfolding step stepAt
   step-arrays cs e =
-      subst (Keeps (arraysAfter (rowKind (rowAt t (s .row) .kind)) same)) e
-      (row-arrays (s .row) (rowKind (rowAt t (s .row) .kind)) (rowAt t (s .row) .a) (rowAt t (s .row) .b) (rowAt t (s .row) .c) cs)
+      subst (Keeps (arraysAfter (rowKind (rowAt t (s .here .row) .kind)) same)) e
+      (row-arrays (s .here .row) (rowKind (rowAt t (s .here .row) .kind)) (rowAt t (s .here .row) .a) (rowAt t (s .here .row) .b)
+          (rowAt t (s .here .row) .c) cs)

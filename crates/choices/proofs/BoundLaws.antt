@@ -13,16 +13,18 @@ use Rattle.lists.proofs.FallingLaws.{value-is}
 use Rattle.table.specs.Rules.{depth, depthBy}
 use Rattle.model.specs.Table.{Table, Ty, Node, nodeKind, nodeAt, nodeRoles, typeAt, rowAt, Row, rowKind, markedUint}
 use Rattle.model.specs.Table.Ty.{bool, uint, pointer}
-use Rattle.model.specs.Table.Node.{variable, uintConstant, boolConstant, cell, plus, minus, less, atMost, equal, conditional, valid, classVariable, reducedCell, reducedValid, noNode}
+use Rattle.model.specs.Table.Node.{variable, uintConstant, boolConstant, cell, plus, minus, less, atMost, equal, conditional, valid, classVariable}
+use Rattle.model.specs.Table.Node.{reducedCell, reducedValid, noNode}
 use Rattle.model.specs.Table.Row.{skip, assign, store, assert, assume, array, loop, loopEnd, reducedStore, reducedArray, classLoop, noRow}
 use Rattle.model.specs.Work.{Out, Work}
 use Rattle.model.specs.Work.Out.{gives, fails, badChoice, noChoice, stuck}
 use Rattle.model.specs.State.{Value, Loop, State}
 use Rattle.model.specs.State.Value.{Truth, Uint, Class, Pointer}
-use Rattle.model.specs.Eval.{Of, Ptr, below, evalF, storeOf, load, variableOf, add}
-use Rattle.model.specs.Step.{Move, node, step}
+use Rattle.model.specs.Eval.{Of, Ptr, below, evalF, contentsOf, load, variableOf, add}
+use Rattle.model.specs.Step.{Move, finished, node, step}
 use Rattle.model.specs.Step.Move.{to, stop}
-use Rattle.model.specs.Writer.{given, numberOf, kept, heldReduced, loadChoices, storeChoices, loopChoices, repeatChoices, choicesRule, choicesF, nodeChoices, rowChoices, stepChoices, heldNext, onward, written}
+use Rattle.model.specs.Writer.{given, numberOf, kept, heldReduced, loadChoices, storeChoices, loopChoices, repeatChoices, choicesRule, choicesF}
+use Rattle.model.specs.Writer.{nodeChoices, rowChoices, stepChoices, heldNext, onward, written}
 
 -- ---- powers of two
 abbrev two : ℕ → ℕ
@@ -105,7 +107,8 @@ module _ (ps : List ℕ) (t : Table) (ks : List Bool) (s : State) where
     by-one : (v : Ty) (xs : List ℕ) (m : ℕ) → low a ≤ m → length xs ≤ 1 → Fewer (ch v a ++ xs) (two (1 + m))
     by-one v xs m g l = let u = up v a m g in let o = two-some m in let e = two-next m in let z = length-append (ch v a) xs in omega (numbers, u, l, o, e, z)
 
-    by-two : (v : Ty) {A : Type 0} (o : Out A) (k : A → List ℕ) (m : ℕ) → low a ≤ m → ((x : A) → Fewer (k x) (two m)) → Fewer (ch v a ++ given o k) (two (1 + m))
+    by-two : (v : Ty) {A : Type 0} (o : Out A) (k : A → List ℕ) (m : ℕ) → low a ≤ m → ((x : A) → Fewer (k x) (two m))
+        → Fewer (ch v a ++ given o k) (two (1 + m))
     by-two v o k m g l = fewer-both (ch v a) (given o k) m (up v a m g) (given-fewer o k m l)
 
     by-both : (v : Ty) (o : Out (Of v)) → Fewer (ch v a ++ given o (λ x. ch uint b)) (two (1 + max (low a) (max (low b) 0)))
@@ -119,10 +122,12 @@ module _ (ps : List ℕ) (t : Table) (ks : List Bool) (s : State) where
     unfolding choicesRule nodeRoles
     rule-fewer variable =
         let xs = given (variableOf (s .vars) a []) numberOf in
-        fewer-next (if markedUint t a then xs else []) 0 (if-one (markedUint t a) xs [] (given-one (variableOf (s .vars) a []) numberOf number-one) (omega numbers))
+        fewer-next (if markedUint t a then xs else []) 0
+            (if-one (markedUint t a) xs [] (given-one (variableOf (s .vars) a []) numberOf number-one) (omega numbers))
     rule-fewer uintConstant = fewer-none 1
     rule-fewer boolConstant = fewer-none 1
-    rule-fewer cell = by-one pointer (given (ev pointer a []) (loadChoices ps t ks s)) (max (low a) 0) (omega numbers) (given-one (ev pointer a []) (loadChoices ps t ks s) load-one)
+    rule-fewer cell = by-one pointer (given (ev pointer a []) (loadChoices ps t ks s)) (max (low a) 0) (omega numbers)
+        (given-one (ev pointer a []) (loadChoices ps t ks s) load-one)
     rule-fewer plus = by-both w (ev w a [])
     rule-fewer minus = by-both w (ev w a [])
     rule-fewer less = by-both uint (ev uint a [])
@@ -154,7 +159,8 @@ module _ (ps : List ℕ) (t : Table) (ks : List Bool) (s : State) where
   node-fewer zero w n = fewer-none (depth t n)
   node-fewer (suc f) w n =
       subst (λ (d : ℕ). Fewer (choicesF ps t ks s (suc f) w n) (two d)) (sym (depth-by n))
-      (rule-fewer w (nodeAt t n .a) (nodeAt t n .b) (nodeAt t n .c) (below n (evalF [] (storeOf s) t f)) (λ v m. if ltb m n then choicesF ps t ks s f v m else []) (lowered n)
+      (rule-fewer w (nodeAt t n .a) (nodeAt t n .b) (nodeAt t n .c) (below n (evalF [] (contentsOf s) t f))
+          (λ v m. if ltb m n then choicesF ps t ks s f v m else []) (lowered n)
       (λ v x. operand-fewer (choicesF ps t ks s f v x) (depth t x) (ltb x n) (node-fewer f v x)) (nodeKind (nodeAt t n .kind)))
 
   -- ---- a row, of nodes that are at most 12 deep
@@ -182,14 +188,16 @@ module _ (ps : List ℕ) (t : Table) (ks : List Bool) (s : State) where
     if-most false xs m h = omega numbers
 
     -- two nodes, and at most two numbers after them
-    two-nodes : (v : Ty) (a : ℕ) {A : Type 0} (o : Out A) (k : A → List ℕ) → ((x : A) → length (k x) ≤ 4097) → length (nodeChoices ps t ks s v a ++ given o k) ≤ 8192
+    two-nodes : (v : Ty) (a : ℕ) {A : Type 0} (o : Out A) (k : A → List ℕ) → ((x : A) → length (k x) ≤ 4097)
+        → length (nodeChoices ps t ks s v a ++ given o k) ≤ 8192
     two-nodes v a o k h =
         let z = length-append (nodeChoices ps t ks s v a) (given o k) in
         let x = node-most v a in
         let y = given-most o k 4097 h in
         omega (numbers, x, y, z)
 
-    then-few : (w : Ty) (b : ℕ) {A : Type 0} (o : Out A) (k : A → List ℕ) → ((x : A) → length (k x) ≤ 2) → length (nodeChoices ps t ks s w b ++ given o k) ≤ 4097
+    then-few : (w : Ty) (b : ℕ) {A : Type 0} (o : Out A) (k : A → List ℕ) → ((x : A) → length (k x) ≤ 2)
+        → length (nodeChoices ps t ks s w b ++ given o k) ≤ 4097
     then-few w b o k h =
         let z = length-append (nodeChoices ps t ks s w b) (given o k) in
         let x = node-most w b in
@@ -201,7 +209,8 @@ module _ (ps : List ℕ) (t : Table) (ks : List Bool) (s : State) where
 
     repeat-most : (ls : List Loop) → length (repeatChoices ps t ks s ls) ≤ 8192
     repeat-most [] = omega numbers
-    repeat-most (l ∷ ls) = let h = given-most (add (l .start) 1 []) (λ x. loopChoices ps t ks s (l .row) x (l .end)) 2 (λ x. loop-most (l .row) x (l .end)) in omega (numbers, h)
+    repeat-most (l ∷ ls) = let h = given-most (add (l .start) 1 []) (λ x. loopChoices ps t ks s (l .row) x (l .end)) 2
+        (λ x. loop-most (l .row) x (l .end)) in omega (numbers, h)
 
     row-most : (n : ℕ) (k : Row) (a b c : ℕ) → length (rowChoices ps t ks s n k a b c) ≤ 8192
     unfolding rowChoices
@@ -209,12 +218,14 @@ module _ (ps : List ℕ) (t : Table) (ks : List Bool) (s : State) where
     row-most n assign a b c = let h = node-most (typeAt t a) b in omega (numbers, h)
     row-most n store a b c =
         two-nodes pointer a (node [] t s pointer a []) _
-        (λ p. then-few uint b (node [] t s uint b []) (λ x. storeChoices ps t ks s p) (λ x. if-most (heldReduced ks (p .array)) (p .place ∷ []) 2 (omega numbers)))
+        (λ p. then-few uint b (node [] t s uint b []) (λ x. storeChoices ps t ks s p)
+            (λ x. if-most (heldReduced ks (p .array)) (p .place ∷ []) 2 (omega numbers)))
     row-most n assert a b c = let h = node-most bool a in omega (numbers, h)
     row-most n assume a b c = let h = node-most bool a in omega (numbers, h)
     row-most n array a b c = let h = node-most uint b in omega (numbers, h)
-    row-most n loop a b c = two-nodes uint b (node [] t s uint b []) _ (λ x. then-few uint c (node [] t s uint c []) (λ y. loopChoices ps t ks s n x y) (λ y. loop-most n x y))
-    row-most n loopEnd a b c = repeat-most (s .loops)
+    row-most n loop a b c = two-nodes uint b (node [] t s uint b []) _
+        (λ x. then-few uint c (node [] t s uint c []) (λ y. loopChoices ps t ks s n x y) (λ y. loop-most n x y))
+    row-most n loopEnd a b c = repeat-most (s .here .loops)
     row-most n reducedStore a b c = omega numbers
     row-most n reducedArray a b c = omega numbers
     row-most n classLoop a b c = omega numbers
@@ -235,16 +246,16 @@ module _ (ps : List ℕ) (t : Table) (shallow : (n : ℕ) → n < t .nodes → d
   onward-most stuck go m h = omega numbers
 
   steps-most : (ks : List Bool) (s : State) (rest : List ℕ) (k : ℕ) (b : Bool) → length rest ≤ k * 8192
-      → length (if b then stepChoices ps t ks s (s .row) ++ rest else []) ≤ suc k * 8192
-  steps-most ks s rest k true h =
-      let z = length-append (stepChoices ps t ks s (s .row)) rest in
-      let x = step-most ps t ks s shallow (s .row) in
+      → length (if b then [] else stepChoices ps t ks s (s .here .row) ++ rest) ≤ suc k * 8192
+  steps-most ks s rest k false h =
+      let z = length-append (stepChoices ps t ks s (s .here .row)) rest in
+      let x = step-most ps t ks s shallow (s .here .row) in
       omega (numbers, x, h, z)
-  steps-most ks s rest k false h = omega numbers
+  steps-most ks s rest k true h = omega numbers
 
   pub written-most : (k : ℕ) (ks : List Bool) (s : State) → length (written ps t k ks s) ≤ k * 8192
   unfolding written
   written-most zero ks s = omega numbers
   written-most (suc k) ks s =
-      steps-most ks s (onward (step [] t s []) (written ps t k (heldNext t (s .row) ks))) k (ltb (s .row) (t .rows))
-      (onward-most (step [] t s []) (written ps t k (heldNext t (s .row) ks)) (k * 8192) (λ s′. written-most k (heldNext t (s .row) ks) s′))
+      steps-most ks s (onward (step [] t s []) (written ps t k (heldNext t (s .here .row) ks))) k (finished t s)
+      (onward-most (step [] t s []) (written ps t k (heldNext t (s .here .row) ks)) (k * 8192) (λ s′. written-most k (heldNext t (s .here .row) ks) s′))

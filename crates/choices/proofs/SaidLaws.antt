@@ -7,57 +7,60 @@ use mathlib.Core.Bool.{false}
 use mathlib.Core.List.{List, [], _++_}
 use lib.ListN.{length, take, drop, replicate, take-append-drop}
 use lib.Seq.{length-take-le}
+use Rattle.choices.specs.Ends.{reportOf}
+use Rattle.runs.specs.CodeSteps.{Lends}
 use Rattle.table.specs.declared.Verdict.{Verdict}
 use Rattle.table.specs.declared.Verdict.the-variants.{Passes, Refused}
 use Rattle.table.specs.Checks.{tableCheck, andThen, sizeCheck}
 use Rattle.table.specs.Rules.{depth, mostDepth}
 use Rattle.table.proofs.Passing.{passing, both-pass, node-depth}
 use Rattle.model.specs.Table.{Table, tableOf}
+use Rattle.model.specs.Class.{pair}
 use Rattle.model.specs.State.{State, cellCount, fresh}
 use Rattle.model.specs.State.MachineKind.{plain}
 use Rattle.model.specs.Step.{Report}
 use Rattle.model.specs.Writer.{writer}
 use Rattle.model.specs.Demand3.{writerRun}
-use Rattle.reduction.specs.Reduction.{pairCheck}
+use Rattle.reduction.specs.Reduction.{placesCheck}
 use Rattle.machine.specs.declared.Machine.{Machine}
 use Rattle.machine.specs.declared.frame.Frame.{Frame}
 use Rattle.machine.specs.View.{places, kindOf, tableFor, stateOf, varsOf}
-use Rattle.machine.specs.Fresh.{freshVars}
-use Rattle.runs.specs.Checks.{frameOf, runChecks, Lends}
+use Rattle.machine.specs.CodeFresh.{freshVars}
+use Rattle.runs.specs.Checks.{frameOf, runChecks}
 use Rattle.runs.proofs.LendLaws.{lends, ready-fresh, state-fresh}
-use Rattle.recording.specs.Records.{pairOf}
+use Rattle.recording.specs.CodeRecords.{pairOf}
 use Rattle.choices.specs.declared.Wrote.{Wrote}
 use Rattle.choices.specs.declared.Answered.{Answered}
-use Rattle.choices.specs.Steps.{Begins, reportOf, Writes}
+use Rattle.choices.specs.CodeSteps.{Begins, Writes}
 use Rattle.choices.specs.Checks.{writerChecks}
 use Rattle.choices.specs.Answers.{saidOf, wroteSaid, writerSaid}
 use Rattle.choices.specs.Answers.Said.{writes}
 
 -- ---- the checks, one after the other
-module _ (c1 c2 : ℕ) (t : List ℕ) (size : ℕ) where
-  pub writer-table : {v : Verdict} {n p : ℕ} → v ≡ tableCheck plain t → v ≡ Refused n p → v ≡ writerChecks c1 c2 t size
+module _ (ps t : List ℕ) (size : ℕ) where
+  pub writer-table : {v : Verdict} {n p : ℕ} → v ≡ tableCheck plain t → v ≡ Refused n p → v ≡ writerChecks ps t size
   unfolding writerChecks
   writer-table e h = rw (← e, h)
 
-  module _ {v : Verdict} (e : v ≡ tableCheck plain t) (h : v ≡ Passes) {w : Verdict} (d : w ≡ pairCheck c1 c2) where
-    pub writer-pair : {n p : ℕ} → w ≡ Refused n p → w ≡ writerChecks c1 c2 t size
+  module _ {v : Verdict} (e : v ≡ tableCheck plain t) (h : v ≡ Passes) {w : Verdict} (d : w ≡ placesCheck ps) where
+    pub writer-places : {n p : ℕ} → w ≡ Refused n p → w ≡ writerChecks ps t size
     unfolding writerChecks
-    writer-pair k = rw (← e, h, ← d, k)
+    writer-places k = rw (← e, h, ← d, k)
 
-    pub writer-size : w ≡ Passes → {x : Verdict} → x ≡ sizeCheck size 4096 → x ≡ writerChecks c1 c2 t size
+    pub writer-size : w ≡ Passes → {x : Verdict} → x ≡ sizeCheck size 4096 → x ≡ writerChecks ps t size
     unfolding writerChecks
     writer-size k g = g ∙ rw (← e, h, ← d, k)
 
-  table-passes : writerChecks c1 c2 t size ≡ Passes → tableCheck plain t ≡ Passes
+  table-passes : writerChecks ps t size ≡ Passes → tableCheck plain t ≡ Passes
   unfolding writerChecks
-  table-passes e = both-pass (tableCheck plain t) (andThen (pairCheck c1 c2) (sizeCheck size (cellCount plain))) e .0
+  table-passes e = both-pass (tableCheck plain t) (andThen (placesCheck ps) (sizeCheck size (cellCount plain))) e .0
 
   -- what passes for the writer passes for the plain machine
-  plain-passes : writerChecks c1 c2 t size ≡ Passes → runChecks plain c1 c2 t size ≡ Passes
+  plain-passes : writerChecks ps t size ≡ Passes → runChecks plain [] t size ≡ Passes
   unfolding writerChecks runChecks
   plain-passes e =
-      let a = both-pass (tableCheck plain t) (andThen (pairCheck c1 c2) (sizeCheck size (cellCount plain))) e in
-      let b = both-pass (pairCheck c1 c2) (sizeCheck size (cellCount plain)) (a .1) in
+      let a = both-pass (tableCheck plain t) (andThen (placesCheck ps) (sizeCheck size (cellCount plain))) e in
+      let b = both-pass (placesCheck ps) (sizeCheck size (cellCount plain)) (a .1) in
       rw (a .0, b .1)
 
 -- ---- a report, its numbers and the rest of the list
@@ -66,23 +69,25 @@ written-said : (t : List ℕ) (f : Frame) (r : Wrote) (cells list lent : List �
 written-said t f r cells list lent report W =
     let n : length (take (r .count) list) ≡ r .count = length-take-le (r .count) list (W .within) in
     let l : list ≡ take (r .count) list ++ drop (length (take (r .count) list)) lent
-    = sym (take-append-drop (r .count) list) ∙ ap (λ (x : List ℕ). take (r .count) list ++ x) (W .kept) ∙ ap (λ (k : ℕ). take (r .count) list ++ drop k lent) (sym n) in
+    = sym (take-append-drop (r .count) list) ∙ ap (λ (x : List ℕ). take (r .count) list ++ x) (W .kept)
+        ∙ ap (λ (k : ℕ). take (r .count) list ++ drop k lent) (sym n) in
     ap (λ (k : ℕ). writes (reportOf t f r cells list) k list) (sym n)
     ∙ ap (writes (reportOf t f r cells list) (length (take (r .count) list))) l
     ∙ ap (wroteSaid lent) (W .report)
 
 -- ---- the start
-module _ (t cells₀ : List ℕ) (c1 c2 : ℕ) (v : Verdict) (q : v ≡ writerChecks c1 c2 t (length cells₀)) (p : v ≡ Passes) (f : Frame) (i : f ≡ frameOf t false c1 c2) where
-  passed : runChecks plain c1 c2 t (length cells₀) ≡ Passes
-  passed = plain-passes c1 c2 t (length cells₀) (sym q ∙ p)
+module _ (t cells₀ : List ℕ) (c1 c2 : ℕ) (v : Verdict) (q : v ≡ writerChecks (pair c1 c2) t (length cells₀)) (p : v ≡ Passes) (f : Frame)
+    (i : f ≡ frameOf t false c1 c2) where
+  passed : runChecks plain [] t (length cells₀) ≡ Passes
+  passed = plain-passes (pair c1 c2) t (length cells₀) (sym q ∙ p)
 
   pub lent : Lends t f cells₀
-  lent = lends t cells₀ false c1 c2 Passes (sym passed) refl f i
+  lent = lends t cells₀ false c1 c2 (sym passed) refl i
 
   shallow : (n : ℕ) → n < f .nodes → depth (tableFor t f) n ≤ mostDepth
   shallow =
       subst (λ (T : Table). (n : ℕ) → n < T .nodes → depth T n ≤ mostDepth) (sym (lent .framed))
-      (node-depth plain t (passing plain t (table-passes c1 c2 t (length cells₀) (sym q ∙ p))))
+      (node-depth plain t (passing plain t (table-passes (pair c1 c2) t (length cells₀) (sym q ∙ p))))
 
   -- a fresh record, in cells that are all zero
   module _ (m : Machine) (cells : List ℕ) (row : m .row ≡ 0) (none : m .open ≡ 0) (count : m .count ≡ 0)
@@ -102,7 +107,7 @@ module _ (t cells₀ : List ℕ) (c1 c2 : ℕ) (v : Verdict) (q : v ≡ writerCh
         ∙ subst (λ (g : Frame). fresh (places g) (kindOf g) (tableFor t f) ≡ fresh [] plain (tableFor t f)) (sym i) refl
         ∙ ap (λ (T : Table). fresh [] plain T) (lent .framed)
 
-    writer-is : (limit room : ℕ) → writer (pairOf f) (tableFor t f) limit 0 [] (stateOf t f m cells) room ≡ writerRun c1 c2 t limit room
+    writer-is : (limit room : ℕ) → writer (pairOf f) (tableFor t f) limit 0 [] (stateOf t f m cells) room ≡ writerRun (pair c1 c2) t limit room
     writer-is limit room =
         ap (λ (s : State). writer (pairOf f) (tableFor t f) limit 0 [] s room) fresh-is
         ∙ ap (λ (T : Table). writer (pairOf f) T limit 0 [] (fresh [] plain (tableOf t)) room) (lent .framed)
@@ -111,13 +116,14 @@ module _ (t cells₀ : List ℕ) (c1 c2 : ℕ) (v : Verdict) (q : v ≡ writerCh
     -- what the loop handed back
     pub said-writes : (list₀ list cells′ : List ℕ) (limit : ℕ) (a : Answered) (r : Wrote) → a .verdict ≡ Passes → a .wrote ≡ r
         → Writes t f r cells′ list list₀ (writer (pairOf f) (tableFor t f) limit 0 [] (stateOf t f m cells) (length list₀))
-        → saidOf t (frameOf t false c1 c2) a cells′ list ≡ writerSaid c1 c2 t cells₀ list₀ limit
+        → saidOf t (frameOf t false c1 c2) a cells′ list ≡ writerSaid (pair c1 c2) t cells₀ list₀ limit
     unfolding writerSaid
     said-writes list₀ list cells′ limit a r u w W =
         let here : saidOf t (frameOf t false c1 c2) a cells′ list ≡ writes (reportOf t f r cells′ list) (r .count) list = rw (u, w, i) in
         here ∙ written-said t f r cells′ list list₀ _ W ∙ ap (wroteSaid list₀) (writer-is limit (length list₀)) ∙ rw (← q, p)
 
-pub said-refused : (t cells list : List ℕ) (c1 c2 limit : ℕ) (v : Verdict) → v ≡ writerChecks c1 c2 t (length cells) → {number place : ℕ} → v ≡ Refused number place
-    → (a : Answered) → a .verdict ≡ v → saidOf t (frameOf t false c1 c2) a cells list ≡ writerSaid c1 c2 t cells list limit
+pub said-refused : (t cells list : List ℕ) (c1 c2 limit : ℕ) (v : Verdict) → v ≡ writerChecks (pair c1 c2) t (length cells) → {number place : ℕ}
+    → v ≡ Refused number place
+    → (a : Answered) → a .verdict ≡ v → saidOf t (frameOf t false c1 c2) a cells list ≡ writerSaid (pair c1 c2) t cells list limit
 unfolding writerSaid
 said-refused t cells list c1 c2 limit v q e a w = rw (w, ← q, e)

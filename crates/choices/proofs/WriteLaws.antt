@@ -9,9 +9,10 @@ use mathlib.Core.List.{List, [], _∷_, _++_, append-assoc, append-nil}
 use lib.ListN.{length, getD, set, take, drop}
 use lib.Seq.{paste, take-paste, drop-paste, length-paste, take-append-seam, drop-drop, getD-set-same, getD-set-other}
 use lib.Dec.{eqb}
-use borrow.Author.Tests.{lt-ltb, le-ltb, le-leb, lt-leb}
+use borrow.Author.Tests.{le-leb, lt-leb}
 use types.Run.{OneOf, miss}
 use denote.Enum.Declared.{tagOf}
+use Rattle.choices.specs.Ends.{endOf}
 use Rattle.lists.specs.If.{if_then_else_}
 use Rattle.lists.specs.Tab.{tab, listed}
 use Rattle.lists.proofs.TabLaws.{tab-snoc, same-tab}
@@ -19,9 +20,10 @@ use Rattle.table.specs.Checks.{machineOf}
 use Rattle.model.specs.Table.{Table, rowAt, Row, rowKind, marked, markedPointer}
 use Rattle.model.specs.Work.{Out}
 use Rattle.model.specs.Work.Out.{gives, fails, badChoice, noChoice, stuck}
-use Rattle.model.specs.State.{MachineKind, State}
+use Rattle.model.specs.Class.{pair}
+use Rattle.model.specs.State.{MachineKind, State, placesIn}
 use Rattle.model.specs.State.MachineKind.{plain}
-use Rattle.model.specs.Step.{Move, Report, after, run, step}
+use Rattle.model.specs.Step.{Move, Report, after, finished, run, step}
 use Rattle.model.specs.Step.End.{done, outOfSteps, listFull}
 use Rattle.model.specs.Step.Move.{to}
 use Rattle.model.specs.Step.Report.{ended, noEnd}
@@ -30,31 +32,32 @@ use Rattle.model.specs.Demand3.{Ends}
 use Rattle.model.specs.Writer.{heldAfter, heldNext, stepChoices, withNumbers, writer, writes}
 use Rattle.model.specs.Table.Row.{skip, assign, store, assert, assume, array, loop, loopEnd, reducedStore, reducedArray, classLoop, noRow}
 use Rattle.model.proofs.SafeStep.{never-stuck}
-use Rattle.model.proofs.MatchStep.{PlainRow}
+use Rattle.model.proofs.KindsIn.{PlainRow}
 use Rattle.model.proofs.Typing.{plain-rows}
 use Rattle.machine.specs.declared.Machine.{Machine}
 use Rattle.machine.specs.declared.frame.Frame.{Frame}
 use Rattle.machine.proofs.rows.Outcome.{the-type as outcome}
 use Rattle.machine.specs.declared.rows.Outcome.{Outcome}
 use Rattle.machine.specs.declared.rows.Outcome.the-variants.{Goes, AssertFalse, AssumeFalse, WantOfCells, Fails, BadChoice, NoChoice, Stuck}
-use Rattle.machine.specs.View.{places, placesOf, kindOf, tableFor, stateOf}
+use Rattle.machine.specs.View.{places, kindOf, tableFor, stateOf}
 use Rattle.machine.proofs.ViewLaws.{count-arrays}
-use Rattle.machine.specs.Rows.{moveOut, outcomeOut, Unmoved, Still}
-use Rattle.runs.specs.Steps.{Ready}
-use Rattle.runs.proofs.RunLaws.{Going, going-on, run-next}
+use Rattle.machine.specs.CodeRows.{moveOut, outcomeOut, Unmoved, Still}
+use Rattle.runs.specs.CodeSteps.{Ready}
+use Rattle.runs.specs.RecordPromises.{CanBe}
+use Rattle.runs.proofs.RunLaws.{going-on, run-next}
 use Rattle.runs.proofs.GoingLaws.{arrays-most}
-use Rattle.recording.specs.Pushes.{Pushed, pushed, pushAll}
+use Rattle.recording.specs.CodePushes.{Pushed, pushed, pushAll}
 use Rattle.recording.proofs.PushLaws.{push-fits}
-use Rattle.recording.specs.Records.{pairOf, heldOf}
+use Rattle.recording.specs.CodeRecords.{pairOf, heldOf}
 use Rattle.recording.specs.declared.rows.Numbers.{Numbers}
 use Rattle.recording.specs.declared.rows.Numbers.the-variants.{Count, Stuck as NoNumbers}
-use Rattle.recording.specs.Rows.{NoEnd, Counted}
+use Rattle.recording.specs.CodeRows.{NoEnd, Counted}
 use Rattle.choices.specs.declared.Wrote.{Wrote}
 use Rattle.choices.specs.declared.End.{End}
 use Rattle.choices.proofs.ArrayLaws.{arraysAfter, step-arrays}
 use Rattle.choices.proofs.BoundLaws.{step-most}
 use Rattle.choices.specs.declared.End.the-variants as Code
-use Rattle.choices.specs.Steps.{Begins, endOf, wrote, stoppedOf, Writes}
+use Rattle.choices.specs.CodeSteps.{Begins, wrote, stoppedOf, Writes}
 
 -- what stands for an outcome that a plain step does not have, and for a failure
 pub other-stop : (o : Outcome) (n at : ℕ) (m : Machine) → OneOf (0 ∷ 4 ∷ 5 ∷ 6 ∷ 7 ∷ []) (tagOf outcome o) → wrote Code.Fail (suc n) at m ≡ stoppedOf o n at m
@@ -89,29 +92,30 @@ numbers-twice xs ys noEnd = refl
 
 -- ---- the writer, one step at a time
 module _ (ps : List ℕ) (t : Table) (n : ℕ) (ks : List Bool) (s : State) (room : ℕ) where
-  write-done : (k : ℕ) → t .rows ≤ s .row → writer ps t k n ks s room ≡ ended done n s []
-  unfolding writer
-  write-done zero h = rw (le-ltb (s .row) (t .rows) h)
-  write-done (suc k) h = rw (le-ltb (s .row) (t .rows) h)
+  write-done : (k : ℕ) → t .rows ≤ s .here .row → writer ps t k n ks s room ≡ ended done n s []
+  unfolding writer finished
+  write-done zero h = rw (le-leb (t .rows) (s .here .row) h)
+  write-done (suc k) h = rw (le-leb (t .rows) (s .here .row) h)
 
-  module _ (h : s .row < t .rows) where
+  module _ (h : s .here .row < t .rows) where
     write-out : writer ps t 0 n ks s room ≡ ended outOfSteps n s []
-    unfolding writer
-    write-out = rw (lt-ltb (s .row) (t .rows) h)
+    unfolding writer finished
+    write-out = rw (lt-leb (t .rows) (s .here .row) h)
 
     module _ (k : ℕ) where
-      write-full : room < length (stepChoices ps t ks s (s .row)) → writer ps t (suc k) n ks s room ≡ ended listFull n s []
-      unfolding writer
-      write-full g = rw (lt-ltb (s .row) (t .rows) h, lt-leb (length (stepChoices ps t ks s (s .row))) room g)
+      write-full : room < length (stepChoices ps t ks s (s .here .row)) → writer ps t (suc k) n ks s room ≡ ended listFull n s []
+      unfolding writer finished
+      write-full g = rw (lt-leb (t .rows) (s .here .row) h, lt-leb (length (stepChoices ps t ks s (s .here .row))) room g)
 
-      write-next : {o : Out Move} → length (stepChoices ps t ks s (s .row)) ≤ room → step [] t s [] ≡ o
+      write-next : {o : Out Move} → length (stepChoices ps t ks s (s .here .row)) ≤ room → step [] t s [] ≡ o
           → writer ps t (suc k) n ks s room
-          ≡ writes n s (stepChoices ps t ks s (s .row)) o (λ s′. writer ps t k (suc n) (heldNext t (s .row) ks) s′ (room - length (stepChoices ps t ks s (s .row))))
-      unfolding writer
-      write-next g e = rw (lt-ltb (s .row) (t .rows) h, le-leb (length (stepChoices ps t ks s (s .row))) room g, e)
+          ≡ writes n s (stepChoices ps t ks s (s .here .row)) o
+              (λ s′. writer ps t k (suc n) (heldNext t (s .here .row) ks) s′ (room - length (stepChoices ps t ks s (s .here .row))))
+      unfolding writer finished
+      write-next g e = rw (lt-leb (t .rows) (s .here .row) h, le-leb (length (stepChoices ps t ks s (s .here .row))) room g, e)
 
 -- ---- a plain step takes no choice, and is never stuck
-pub plain-ends : (t : Table) → Accepted plain t → (s : State) → CanHave [] plain t s → s .row < t .rows → NoEnd (step [] t s []) → ⊥
+pub plain-ends : (t : Table) → Accepted plain t → (s : State) → CanHave [] plain t s → s .here .row < t .rows → NoEnd (step [] t s []) → ⊥
 plain-ends t A s C h = go (step [] t s []) refl
   where
     first : Ends [] plain t [] (run [] t 1 0 s [])
@@ -133,13 +137,15 @@ unfolding heldOf
 held-more count held flag h =
     tab-snoc count (λ i. eqb (getD (set held count flag) i 0) 1)
     ∙ ap (λ (l : List Bool). l ++ (eqb (getD (set held count flag) count 0) 1 ∷ []))
-    (same-tab count (λ i. eqb (getD (set held count flag) i 0) 1) (λ i. eqb (getD held i 0) 1) (λ i l. ap (λ (v : ℕ). eqb v 1) (getD-set-other held count i flag 0 (λ z. omega (numbers, z, l)))))
+    (same-tab count (λ i. eqb (getD (set held count flag) i 0) 1) (λ i. eqb (getD held i 0) 1)
+        (λ i l. ap (λ (v : ℕ). eqb v 1) (getD-set-other held count i flag 0 (λ z. omega (numbers, z, l)))))
     ∙ ap (λ (v : ℕ). tab count (λ i. eqb (getD held i 0) 1) ++ (eqb v 1 ∷ [])) (getD-set-same held count flag 0 h)
 
 held-same : (count : ℕ) (held : List ℕ) (flag : ℕ) → heldOf count (set held count flag) ≡ heldOf count held
 unfolding heldOf
 held-same count held flag =
-    same-tab count (λ i. eqb (getD (set held count flag) i 0) 1) (λ i. eqb (getD held i 0) 1) (λ i l. ap (λ (v : ℕ). eqb v 1) (getD-set-other held count i flag 0 (λ z. omega (numbers, z, l))))
+    same-tab count (λ i. eqb (getD (set held count flag) i 0) 1) (λ i. eqb (getD held i 0) 1)
+        (λ i l. ap (λ (v : ℕ). eqb v 1) (getD-set-other held count i flag 0 (λ z. omega (numbers, z, l))))
 
 flag-is : (q : Bool) → eqb (if q then 1 else 0) 1 ≡ q
 flag-is true = refl
@@ -168,7 +174,8 @@ module _ (t : Table) (a : ℕ) (q : Bool) (count : ℕ) (held : List ℕ) where
   held-marked noRow p c e h = unmade c e
 
   -- there was no place for it, and no array
-  held-unmarked : (k : Row) → PlainRow t k a → (count′ : ℕ) → count′ ≡ arraysAfter k count → count′ ≤ count → heldOf count′ held ≡ heldAfter k q (heldOf count held)
+  held-unmarked : (k : Row) → PlainRow t k a → (count′ : ℕ) → count′ ≡ arraysAfter k count → count′ ≤ count
+      → heldOf count′ held ≡ heldAfter k q (heldOf count held)
   held-unmarked skip p c e h = ap (λ (n : ℕ). heldOf n held) e
   held-unmarked assign p c e h = ap (λ (n : ℕ). heldOf n held) e
   held-unmarked store p c e h = ap (λ (n : ℕ). heldOf n held) e
@@ -200,9 +207,11 @@ module _ (t : List ℕ) (f : Frame) where
     pub size : length list ≡ length lent
     pub kept : drop at list ≡ drop at lent
     pub column : length held ≡ 16
-    pub same : withNumbers (take at list) (whole (limit - steps) steps (heldOf (m .count) held) m cells (length lent - at)) ≡ whole limit 0 [] m₀ cs₀ (length lent)
+    pub same : withNumbers (take at list) (whole (limit - steps) steps (heldOf (m .count) held) m cells (length lent - at))
+        ≡ whole limit 0 [] m₀ cs₀ (length lent)
 
-  pub left-all : (lent : List ℕ) (limit : ℕ) (m : Machine) (cells held : List ℕ) → Begins t f m cells → length held ≡ 16 → Left lent limit m cells m cells lent held 0 0
+  pub left-all : (lent : List ℕ) (limit : ℕ) (m : Machine) (cells held : List ℕ) → Begins t f m cells → length held ≡ 16
+      → Left lent limit m cells m cells lent held 0 0
   unfolding heldOf tab listed
   left-all lent limit m cells held B h = record {
     begins = B;
@@ -219,7 +228,8 @@ module _ (t : List ℕ) (f : Frame) where
         ∙ ap (λ (k : ℕ). whole limit 0 [] m cells k) (let z : length lent - 0 ≡ length lent = omega numbers in z);
   }
 
-  module _ (lent : List ℕ) (limit : ℕ) (m₀ : Machine) (cs₀ : List ℕ) (m : Machine) (cells list held : List ℕ) (at steps : ℕ) (L : Left lent limit m₀ cs₀ m cells list held at steps) where
+  module _ (lent : List ℕ) (limit : ℕ) (m₀ : Machine) (cs₀ : List ℕ) (m : Machine) (cells list held : List ℕ) (at steps : ℕ)
+      (L : Left lent limit m₀ cs₀ m cells list held at steps) where
     abbrev all-of : Report
     all-of = whole limit 0 [] m₀ cs₀ (length lent)
 
@@ -253,7 +263,7 @@ module _ (t : List ℕ) (f : Frame) where
 
       no-places : places f ≡ []
       unfolding places
-      no-places = ap (λ (k : MachineKind). placesOf k (f .c1) (f .c2)) kind-plain
+      no-places = ap (λ (k : MachineKind). placesIn k (pair (f .c1) (f .c2))) kind-plain
 
       accepted-plain : Accepted plain (tableFor t f)
       accepted-plain = subst (λ (k : MachineKind). Accepted k (tableFor t f)) kind-plain (L .ready .accepted)
@@ -261,7 +271,8 @@ module _ (t : List ℕ) (f : Frame) where
       no-end : NoEnd (step [] (tableFor t f) here []) → ⊥
       no-end =
           plain-ends (tableFor t f) accepted-plain here
-          (subst (λ (k : MachineKind). CanHave [] k (tableFor t f) here) kind-plain (subst (λ (ps : List ℕ). CanHave ps (kindOf f) (tableFor t f) here) no-places (L .ready .can))) inside
+          (subst (λ (k : MachineKind). CanHave [] k (tableFor t f) here) kind-plain
+              (subst (λ (ps : List ℕ). CanHave ps (kindOf f) (tableFor t f) here) no-places (L .ready .can))) inside
 
       -- no plain step is stuck, nor for want of a choice
       pub stuck-never : {A : Type 0} (c : Numbers) (xs out : List ℕ) (p : Pushed) → Counted c (step [] (tableFor t f) here []) xs out p → c ≡ NoNumbers → A
@@ -284,7 +295,8 @@ module _ (t : List ℕ) (f : Frame) where
         count-is = ap (λ (p : Pushed). p .at) exact ∙ (let z : 0 + length xs ≡ length xs = omega numbers in z)
 
         taken : take n nums ≡ xs
-        taken = ap (λ (k : ℕ). take k nums) count-is ∙ ap (λ (p : Pushed). take (length xs) (p .buffer)) exact ∙ take-append-seam xs (drop (0 + length xs) nums₀)
+        taken = ap (λ (k : ℕ). take k nums) count-is ∙ ap (λ (p : Pushed). take (length xs) (p .buffer)) exact
+            ∙ take-append-seam xs (drop (0 + length xs) nums₀)
 
         pub few-numbers : n ≤ 8192
         few-numbers = let h = few in let e = count-is in omega (numbers, h, e)
@@ -296,7 +308,8 @@ module _ (t : List ℕ) (f : Frame) where
         left-full h r q =
             hands Code.ListFull r q
             (ap (λ (k : ℕ). whole k steps ks m cells (length lent - at)) one-left
-            ∙ write-full (pairOf f) (tableFor t f) steps ks here (length lent - at) inside (limit - suc steps) (let e = count-is in let z = L .size in omega (numbers, h, e, z)))
+            ∙ write-full (pairOf f) (tableFor t f) steps ks here (length lent - at) inside (limit - suc steps)
+                (let e = count-is in let z = L .size in omega (numbers, h, e, z)))
 
         -- ... which are copied into the list
         module _ (fits : n ≤ length list - at) (long : length nums ≡ 8192) (list′ : List ℕ) (pasted : list′ ≡ paste list at nums n) where
@@ -318,16 +331,22 @@ module _ (t : List ℕ) (f : Frame) where
           size-is = ap length pasted ∙ length-paste list at nums n inside-list short
 
           by-step : {o : Out Move} → step [] (tableFor t f) here [] ≡ o
-              → withNumbers (take at list) (writes steps here xs o (λ s′. writer (pairOf f) (tableFor t f) (limit - suc steps) (suc steps) (heldNext (tableFor t f) (m .row) ks) s′ (length lent - at - length xs))) ≡ all-of
+              → withNumbers (take at list)
+                  (writes steps here xs o
+                  (λ s′. writer (pairOf f) (tableFor t f) (limit - suc steps) (suc steps) (heldNext (tableFor t f) (m .row) ks) s′
+                  (length lent - at - length xs))) ≡ all-of
           by-step e =
-              ap (withNumbers (take at list)) (sym (write-next (pairOf f) (tableFor t f) steps ks here (length lent - at) inside (limit - suc steps) (let c = count-is in let z = L .size in omega (numbers, fits, c, z)) e))
+              ap (withNumbers (take at list))
+                  (sym (write-next (pairOf f) (tableFor t f) steps ks here (length lent - at) inside (limit - suc steps)
+                  (let c = count-is in let z = L .size in omega (numbers, fits, c, z)) e))
               ∙ ap (λ (k : ℕ). withNumbers (take at list) (whole k steps ks m cells (length lent - at))) (sym one-left) ∙ L .same
 
           module _ (m′ : Machine) (cells′ : List ℕ) (o : Outcome) (e : moveOut t f m′ cells′ [] o ≡ step (places f) (tableFor t f) here []) where
             plainly : moveOut t f m′ cells′ [] o ≡ step [] (tableFor t f) here []
             plainly = e ∙ ap (λ (ps : List ℕ). step ps (tableFor t f) here []) no-places
 
-            pub left-stop : Unmoved o m′ m cells′ cells → OneOf (1 ∷ 2 ∷ 3 ∷ 4 ∷ 5 ∷ 6 ∷ 7 ∷ []) (tagOf outcome o) → (r : Wrote) → r ≡ stoppedOf o steps (at + n) m′
+            pub left-stop : Unmoved o m′ m cells′ cells → OneOf (1 ∷ 2 ∷ 3 ∷ 4 ∷ 5 ∷ 6 ∷ 7 ∷ []) (tagOf outcome o) → (r : Wrote)
+                → r ≡ stoppedOf o steps (at + n) m′
                 → Writes t f r cells′ list′ lent all-of
             unfolding outcomeOut Still
             left-stop v h r q = subst (λ (r : Wrote). Writes t f r cells′ list′ lent all-of) (sym q) (go o plainly v h)
@@ -335,14 +354,17 @@ module _ (t : List ℕ) (f : Frame) where
                 unmoved : (m′ ≡ m) × (cells′ ≡ cells) → stateOf t f m′ cells′ ≡ here
                 unmoved v = ap (λ (m : Machine). stateOf t f m cells′) (v .0) ∙ ap (λ (cs : List ℕ). stateOf t f m cs) (v .1)
 
-                stop-at : (c : End) → (m′ ≡ m) × (cells′ ≡ cells) → ended (endOf c) (suc steps) here (take at list ++ xs) ≡ all-of → Writes t f (wrote c (suc steps) (at + n) m′) cells′ list′ lent all-of
+                stop-at : (c : End) → (m′ ≡ m) × (cells′ ≡ cells) → ended (endOf c) (suc steps) here (take at list ++ xs) ≡ all-of
+                    → Writes t f (wrote c (suc steps) (at + n) m′) cells′ list′ lent all-of
                 stop-at c v z = record {
-                  report = ap (λ (s : State). ended (endOf c) (suc steps) s (take (at + n) list′)) (unmoved v) ∙ ap (ended (endOf c) (suc steps) here) numbers-are ∙ z;
+                  report = ap (λ (s : State). ended (endOf c) (suc steps) s (take (at + n) list′)) (unmoved v)
+                      ∙ ap (ended (endOf c) (suc steps) here) numbers-are ∙ z;
                   within = let i = inside-list in let s = size-is in omega (numbers, i, s);
                   kept = rest-is;
                 }
 
-                go : (o : Outcome) → moveOut t f m′ cells′ [] o ≡ step [] (tableFor t f) here [] → Unmoved o m′ m cells′ cells → OneOf (1 ∷ 2 ∷ 3 ∷ 4 ∷ 5 ∷ 6 ∷ 7 ∷ []) (tagOf outcome o)
+                go : (o : Outcome) → moveOut t f m′ cells′ [] o ≡ step [] (tableFor t f) here [] → Unmoved o m′ m cells′ cells
+                    → OneOf (1 ∷ 2 ∷ 3 ∷ 4 ∷ 5 ∷ 6 ∷ 7 ∷ []) (tagOf outcome o)
                     → Writes t f (stoppedOf o steps (at + n) m′) cells′ list′ lent all-of
                 go (Goes nx) e v h = absurd (miss (1 ∷ 2 ∷ 3 ∷ 4 ∷ 5 ∷ 6 ∷ 7 ∷ []) 0 tt h)
                 go (AssertFalse nx) e v h = stop-at Code.AssertFalse v (by-step (sym e))
@@ -360,11 +382,19 @@ module _ (t : List ℕ) (f : Frame) where
 
               next-ready : Ready t f m′ cells′
               next-ready =
-                  let g : Going (places f) (kindOf f) (tableFor t f) here = record { can = L .ready .can; regular = L .ready .regular } in
-                  let e′ : step (places f) (tableFor t f) here [] ≡ gives (to (stateOf t f m′ cells′)) (drop nx []) = ap (λ (ps : List ℕ). step ps (tableFor t f) here []) no-places ∙ goes in
+                  let g : CanBe (kindOf f) (places f) (tableFor t f) here = record { can = L .ready .can; regular = L .ready .regular } in
+                  let e′ : step (places f) (tableFor t f) here []
+                      ≡ gives (to (stateOf t f m′ cells′)) (drop nx []) = ap (λ (ps : List ℕ). step ps (tableFor t f) here []) no-places ∙ goes in
                   let G = going-on (places f) (kindOf f) (tableFor t f) (L .ready .accepted) here g inside [] tt (stateOf t f m′ cells′) (drop nx []) e′ in
                   let z = L .ready .room in
-                  record { accepted = L .ready .accepted; laid = L .ready .laid; few = L .ready .few; can = G .can; regular = G .regular; room = omega (numbers, kept, z) }
+                  record {
+                    accepted = L .ready .accepted;
+                    laid = L .ready .laid;
+                    few = L .ready .few;
+                    can = G .can;
+                    regular = G .regular;
+                    room = omega (numbers, kept, z);
+                  }
 
               count-next : m′ .count ≡ arraysAfter (rowKind (rowAt (tableFor t f) (m .row) .kind)) (m .count)
               count-next =
@@ -375,12 +405,15 @@ module _ (t : List ℕ) (f : Frame) where
                   → heldOf (m′ .count) (set held (m .count) flag) ≡ heldNext (tableFor t f) (m .row) ks
               held-set h e =
                   ap (λ (v : ℕ). heldOf (m′ .count) (set held (m .count) v)) e
-                  ∙ held-marked (tableFor t f) (rowAt (tableFor t f) (m .row) .a) (markedPointer (tableFor t f) (rowAt (tableFor t f) (m .row) .a)) (m .count) held
-                  (rowKind (rowAt (tableFor t f) (m .row) .kind)) (plain-rows (tableFor t f) accepted-plain (m .row)) (m′ .count) count-next (let c = L .column in omega (numbers, h, c))
+                  ∙ held-marked (tableFor t f) (rowAt (tableFor t f) (m .row) .a) (markedPointer (tableFor t f) (rowAt (tableFor t f) (m .row) .a))
+                      (m .count) held
+                  (rowKind (rowAt (tableFor t f) (m .row) .kind)) (plain-rows (tableFor t f) accepted-plain (m .row)) (m′ .count) count-next
+                      (let c = L .column in omega (numbers, h, c))
 
               pub held-kept : 16 ≤ m .count → heldOf (m′ .count) held ≡ heldNext (tableFor t f) (m .row) ks
               held-kept h =
-                  held-unmarked (tableFor t f) (rowAt (tableFor t f) (m .row) .a) (markedPointer (tableFor t f) (rowAt (tableFor t f) (m .row) .a)) (m .count) held
+                  held-unmarked (tableFor t f) (rowAt (tableFor t f) (m .row) .a) (markedPointer (tableFor t f) (rowAt (tableFor t f) (m .row) .a))
+                      (m .count) held
                   (rowKind (rowAt (tableFor t f) (m .row) .kind)) (plain-rows (tableFor t f) accepted-plain (m .row)) (m′ .count) count-next
                   (let g = arrays-most t f m′ cells′ (places f) (kindOf f) (next-ready .can) (next-ready .regular) in omega (numbers, h, g))
 
@@ -395,10 +428,16 @@ module _ (t : List ℕ) (f : Frame) where
                 kept = rest-is;
                 column = c;
                 same =
-                    ap (λ (l : List ℕ). withNumbers l (whole (limit - (steps + 1)) (steps + 1) (heldOf (m′ .count) held′) m′ cells′ (length lent - (at + n)))) numbers-are
-                    ∙ sym (numbers-twice (take at list) xs (whole (limit - (steps + 1)) (steps + 1) (heldOf (m′ .count) held′) m′ cells′ (length lent - (at + n))))
-                    ∙ ap (λ (l : List Bool). withNumbers (take at list) (withNumbers xs (whole (limit - (steps + 1)) (steps + 1) l m′ cells′ (length lent - (at + n))))) z
-                    ∙ ap (λ (k : ℕ). withNumbers (take at list) (withNumbers xs (whole (limit - (steps + 1)) (steps + 1) (heldNext (tableFor t f) (m .row) ks) m′ cells′ k))) (let c = count-is in let w : length lent - (at + n) ≡ length lent - at - length xs = omega (numbers, c) in w)
-                    ∙ ap (λ (k : ℕ). withNumbers (take at list) (withNumbers xs (whole (limit - k) k (heldNext (tableFor t f) (m .row) ks) m′ cells′ (length lent - at - length xs)))) (add-one steps)
+                    ap (λ (l : List ℕ). withNumbers l
+                        (whole (limit - (steps + 1)) (steps + 1) (heldOf (m′ .count) held′) m′ cells′ (length lent - (at + n)))) numbers-are
+                    ∙ sym (numbers-twice (take at list) xs
+                        (whole (limit - (steps + 1)) (steps + 1) (heldOf (m′ .count) held′) m′ cells′ (length lent - (at + n))))
+                    ∙ ap (λ (l : List Bool). withNumbers (take at list)
+                        (withNumbers xs (whole (limit - (steps + 1)) (steps + 1) l m′ cells′ (length lent - (at + n))))) z
+                    ∙ ap (λ (k : ℕ). withNumbers (take at list)
+                        (withNumbers xs (whole (limit - (steps + 1)) (steps + 1) (heldNext (tableFor t f) (m .row) ks) m′ cells′ k)))
+                        (let c = count-is in let w : length lent - (at + n) ≡ length lent - at - length xs = omega (numbers, c) in w)
+                    ∙ ap (λ (k : ℕ). withNumbers (take at list)
+                        (withNumbers xs (whole (limit - k) k (heldNext (tableFor t f) (m .row) ks) m′ cells′ (length lent - at - length xs)))) (add-one steps)
                     ∙ by-step goes;
               }

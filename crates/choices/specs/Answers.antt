@@ -2,6 +2,7 @@
 use Prim.Native.Nat.{ℕ}
 use mathlib.Core.List.{List, [], _++_}
 use lib.ListN.{length, drop}
+use Rattle.choices.specs.Ends.{reportOf}
 use Rattle.table.specs.declared.Verdict.{Verdict}
 use Rattle.table.specs.declared.Verdict.the-variants.{Passes, Refused}
 use Rattle.model.specs.Step.{Report}
@@ -9,7 +10,6 @@ use Rattle.model.specs.Step.Report.{ended, noEnd}
 use Rattle.model.specs.Demand3.{writerRun}
 use Rattle.machine.specs.declared.frame.Frame.{Frame}
 use Rattle.choices.specs.declared.Answered.{Answered}
-use Rattle.choices.specs.Steps.{reportOf}
 use Rattle.choices.specs.Checks.{writerChecks}
 
 -- a refusal, with its number and place, the cells and the list at exit; or a report, which has end, steps, the record, the cells at exit and
@@ -37,5 +37,5 @@ abbrev pub wroteSaid : List ℕ → Report → Said
 wroteSaid lent report = writes report (length (numbersOf report)) (numbersOf report ++ drop (length (numbersOf report)) lent)
 
 -- "The choice writer runs the plain table fresh"; a refusal leaves cells and list as they were lent
-unfoldable pub writerSaid : ℕ → ℕ → List ℕ → List ℕ → List ℕ → ℕ → Said
-writerSaid c1 c2 t cells lent limit = saidBy (writerChecks c1 c2 t (length cells)) cells lent (wroteSaid lent (writerRun c1 c2 t limit (length lent)))
+unfoldable pub writerSaid : List ℕ → List ℕ → List ℕ → List ℕ → ℕ → Said
+writerSaid ps t cells lent limit = saidBy (writerChecks ps t (length cells)) cells lent (wroteSaid lent (writerRun ps t limit (length lent)))

@@ -5,8 +5,8 @@ use Rattle.table.specs.declared.Verdict.{Verdict}
 use Rattle.table.specs.Checks.{tableCheck, andThen, sizeCheck}
 use Rattle.model.specs.State.{cellCount}
 use Rattle.model.specs.State.MachineKind.{plain}
-use Rattle.reduction.specs.Reduction.{pairCheck}
+use Rattle.reduction.specs.Reduction.{placesCheck}
 
 -- 4 to 12 by the plain rules, 13, 14: "Tested in this order". A list may be of any length
-unfoldable pub writerChecks : ℕ → ℕ → List ℕ → ℕ → Verdict
-writerChecks c1 c2 t cells = andThen (tableCheck plain t) (andThen (pairCheck c1 c2) (sizeCheck cells (cellCount plain)))
+unfoldable pub writerChecks : List ℕ → List ℕ → ℕ → Verdict
+writerChecks ps t cells = andThen (tableCheck plain t) (andThen (placesCheck ps) (sizeCheck cells (cellCount plain)))

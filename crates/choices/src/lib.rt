@@ -15,6 +15,7 @@ use table::check_table;
 ghost use mathlib.Core.Path.{_≡_};
 ghost use mathlib.Core.Bool.{false};
 ghost use lib.ListN.{length};
+ghost use Rattle.model.specs.Class.{pair};
 ghost use Rattle.runs.specs.Checks.{frameOf};
 ghost use Rattle.choices.specs.Checks.{writerChecks};
 ghost use Rattle.choices.specs.Answers.{saidOf, writerSaid};
@@ -47,7 +48,7 @@ pub struct Answered {
 
 // 4 to 12, 13 and 14, in that order.
 fn check_writer(t: &[u32], cells: &[u32], c1: u32, c2: u32) -> Verdict
-    ensures { λ r. ⌜ r ≡ writerChecks c1 c2 (now (t .entry)) (length (now (cells .entry))) ⌝ }
+    ensures { λ r. ⌜ r ≡ writerChecks (pair c1 c2) (now (t .entry)) (length (now (cells .entry))) ⌝ }
 {
     let table = check_table(t, false);
     let Verdict::Passes = table else {
@@ -95,7 +96,7 @@ pub fn write_choices(
     list: &mut [u32],
     limit: u32,
 ) -> Answered
-    ensures { λ r. ⌜ saidOf (now (t .entry)) (frameOf (now (t .entry)) false c1 c2) r (now (cells .exit)) (now (list .exit)) ≡ writerSaid c1 c2 (now (t .entry)) (now (cells .entry)) (now (list .entry)) limit ⌝ }
+    ensures { λ r. ⌜ saidOf (now (t .entry)) (frameOf (now (t .entry)) false c1 c2) r (now (cells .exit)) (now (list .exit)) ≡ writerSaid (pair c1 c2) (now (t .entry)) (now (cells .entry)) (now (list .entry)) limit ⌝ }
 {
     let v = check_writer(t, cells, c1, c2);
     let Verdict::Passes = v else {

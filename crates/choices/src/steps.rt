@@ -14,8 +14,8 @@ ghost use mathlib.Core.List.{[]};
 ghost use lib.ListN.{length};
 ghost use Rattle.model.specs.Writer.{writer};
 ghost use Rattle.machine.specs.View.{tableFor, stateOf};
-ghost use Rattle.recording.specs.Records.{pairOf};
-ghost use Rattle.choices.specs.Steps.{Begins, wrote, stoppedOf, Writes};
+ghost use Rattle.recording.specs.CodeRecords.{pairOf};
+ghost use Rattle.choices.specs.CodeSteps.{Begins, wrote, stoppedOf, Writes};
 
 // An end after so many steps, with so many numbers written.
 fn wrote_to(end: End, steps: u32, at: usize, machine: Machine) -> Wrote

@@ -9,10 +9,10 @@ use lib.ListN.{length, take}
 use Rattle.lists.specs.Tab.{tab, padded}
 use Rattle.lists.proofs.TabLaws.{length-tab, take-padded}
 use Rattle.file.specs.Word.{byteOf, putWord}
-use Rattle.file.specs.Layout.{lines, blocksFor, checkOf, plainWord, fileWord, fileByte, fileBytes}
+use Rattle.file.specs.Layout.{linesIn, blocksFor, checkOf, bodyWord, fileWord, fileByte, fileBytes}
 use Rattle.file.proofs.WordLaws.{put-more}
 
-pub length-file : (ws : List ℕ) → length (fileBytes ws) ≡ 512 * blocksFor (lines ws)
+pub length-file : (ws : List ℕ) → length (fileBytes ws) ≡ 512 * blocksFor (linesIn ws)
 unfolding fileBytes
 length-file ws = length-tab _ _
 
@@ -21,11 +21,11 @@ pub written-file : (ws : List ℕ) → length ws ≤ 5248 → take (length (file
 written-file ws small = take-padded (fileBytes ws) 22016 (omega (arith, length-file ws))
 
 module _ (ws : List ℕ) (k : ℕ) where
-  pub word-plain : (r : ℕ) → r < 127 → fileWord ws k r ≡ plainWord ws k r
+  pub word-plain : (r : ℕ) → r < 127 → fileWord ws k r ≡ bodyWord ws k r
   unfolding fileWord
   word-plain r l = rw (lt-ltb r 127 l)
 
-  pub word-check : fileWord ws k 127 ≡ checkOf (plainWord ws k)
+  pub word-check : fileWord ws k 127 ≡ checkOf (bodyWord ws k)
   unfolding fileWord
   word-check = refl
 

@@ -17,7 +17,7 @@ use Rattle.lists.proofs.TabLaws.{all-at}
 use Rattle.lists.proofs.FirstLaws.{first-nowhere-at}
 use Rattle.file.specs.declared.Read.the-variants.{Lines, Refused}
 use Rattle.file.specs.Layout.{checkOf}
-use Rattle.file.specs.Reading.{word, blocks, linesInAll, wrongLength, wrongCheck, wrongCount, unusedZero, wrongBlock, refusedAt, readAnswer}
+use Rattle.file.specs.Reading.{word, blocks, linesInAll, wrongLength, wrongCheck, wrongCount, unusedZero, wrongBlock, refusedAtBlock, readAnswer}
 
 none-of-three : (a b c : Bool) → (a || b || c) ≡ false → (a ≡ false) × (b ≡ false) × (c ≡ false)
 none-of-three true b c e = absurd (true≢false e)
@@ -48,18 +48,21 @@ pub right-block : (bs : List ℕ) (n k : ℕ) → wrongBlock bs n k ≡ false �
 unfolding wrongBlock
 right-block bs n k e =
     let c = word bs k 125 in
-    let right = none-of-five (not (eqb (word bs k 124) k)) (wrongCount c (eqb (k + 1) (blocks bs))) (not (eqb (word bs k 126) n)) (ltb 1312 n) (not (unusedZero bs k c)) e in
+    let right = none-of-five (not (eqb (word bs k 124) k)) (wrongCount c (eqb (k + 1) (blocks bs))) (not (eqb (word bs k 126) n)) (ltb 1312 n)
+        (not (unusedZero bs k c)) e in
     let count = none-of-three (ltb c 1) (ltb 31 c) (not (eqb (k + 1) (blocks bs)) && not (eqb c 31)) (right .1) in
     record {
       number = eqb-true _ _ (not-false _ (right .0));
       some = ltb-false _ _ (count .0);
       few = ltb-false _ _ (count .1);
-      full = λ l. let more : eqb (k + 1) (blocks bs) ≡ false = ne-eqb (k + 1) (blocks bs) (λ q. omega arith) in eqb-true c 31 (not-false _ (rw more at (count .2)));
+      full = λ l. let more : eqb (k + 1) (blocks bs)
+          ≡ false = ne-eqb (k + 1) (blocks bs) (λ q. omega arith) in eqb-true c 31 (not-false _ (rw more at (count .2)));
       total = eqb-true _ _ (not-false _ (right .2));
       most = ltb-false _ _ (right .3);
       zeros = λ r l m.
           let at : 4 * c + (r - 4 * c) ≡ r = omega arith in
-          rw at at (eqb-true (word bs k (4 * c + (r - 4 * c))) 0 (all-at (124 - 4 * c) (λ r. eqb (word bs k (4 * c + r)) 0) (not-false _ (right .4)) (r - 4 * c) (omega arith)));
+          rw at at (eqb-true (word bs k (4 * c + (r - 4 * c))) 0
+              (all-at (124 - 4 * c) (λ r. eqb (word bs k (4 * c + r)) 0) (not-false _ (right .4)) (r - 4 * c) (omega arith)));
     }
 
 -- a file that the reader accepts, into so many words, as one of n lines
@@ -77,7 +80,8 @@ right-all bs e k l = right-block bs (linesInAll bs) k (first-nowhere-at (blocks 
 pub accepted : (bs : List ℕ) (room n : ℕ) → readAnswer bs room ≡ Lines n → Accepted bs room n
 unfolding readAnswer
 accepted bs room n e =
-    go (not (eqb (length bs % 512) 0)) (ltb 22016 (length bs)) (first (wrongCheck bs) 0 (blocks bs)) (first (wrongBlock bs (linesInAll bs)) 0 (blocks bs)) (eqb room 5248)
+    go (not (eqb (length bs % 512) 0)) (ltb 22016 (length bs)) (first (wrongCheck bs) 0 (blocks bs)) (first (wrongBlock bs (linesInAll bs)) 0 (blocks bs))
+        (eqb room 5248)
     refl refl refl refl refl e
   where
     never : (a b : ℕ) → Refused a b ≡ Lines n → ⊥
@@ -86,7 +90,8 @@ accepted bs room n e =
     go : (u v : Bool) (c b : Found) (r : Bool)
         → not (eqb (length bs % 512) 0) ≡ u → ltb 22016 (length bs) ≡ v → first (wrongCheck bs) 0 (blocks bs) ≡ c
         → first (wrongBlock bs (linesInAll bs)) 0 (blocks bs) ≡ b → eqb room 5248 ≡ r
-        → (if u || v then Refused 1 0 else refusedAt 2 c (refusedAt 3 b (if r then Lines (linesInAll bs) else Refused 14 0))) ≡ Lines n → Accepted bs room n
+        → (if u || v then Refused 1 0 else refusedAtBlock 2 c (refusedAtBlock 3 b (if r then Lines (linesInAll bs) else Refused 14 0))) ≡ Lines n
+            → Accepted bs room n
     go true v c b r eu ev ec eb er h = absurd (never _ _ h)
     go false true c b r eu ev ec eb er h = absurd (never _ _ h)
     go false false (At k) b r eu ev ec eb er h = absurd (never _ _ h)

@@ -15,7 +15,7 @@ use Rattle.model.specs.State.MachineKind.{plain}
 use Rattle.table.specs.Checks.{tableCheck, sizeCheck}
 use Rattle.table.proofs.Sizes.{sizes}
 use Rattle.table.proofs.Passing.{Passing, passing, both-pass}
-use Rattle.file.specs.Layout.{fileBytes, lines}
+use Rattle.file.specs.Layout.{fileBytes, linesIn}
 use Rattle.file.specs.Reading.{readAnswer, readBuffer}
 use Rattle.file.specs.Writing.{filledAs, writeAnswer, writeBuffer, writeCheck, writtenAs}
 use Rattle.file.specs.Statements.{ReadIsWrittenAgain, WrittenReadsBack}
@@ -41,7 +41,7 @@ written-reads-back w below out n e buffer f =
     let a = wrote (writeCheck w (length out)) (length (fileBytes w)) n e in
     let b = both-pass (tableCheck plain w) (sizeCheck (length out) 22016) (a .0) in
     let s = passing-short w (b .0) in
-    subst (λ (bs : List ℕ). (readAnswer bs (length buffer) ≡ Lines (lines w)) × (readBuffer bs buffer ≡ padded 5248 w)) (sym (same w (a .0) (a .1) (s .1)))
+    subst (λ (bs : List ℕ). (readAnswer bs (length buffer) ≡ Lines (linesIn w)) × (readBuffer bs buffer ≡ padded 5248 w)) (sym (same w (a .0) (a .1) (s .1)))
     (read-back w below (s .0) (s .1) buffer f)
   where
     same : (w : List ℕ) → writeCheck w (length out) ≡ Passes → length (fileBytes w) ≡ n → length w ≤ 5248 → take n (writeBuffer w out) ≡ fileBytes w

@@ -23,7 +23,8 @@ word-bytes w h =
 pub bytes-word : (bs : List ℕ) → ((j : ℕ) → getD bs j 0 < 256) → (i b : ℕ) → b < 4 → byteOf (wordAt bs i) b ≡ getD bs (i + b) 0
 bytes-word bs h i b l = by b l (h i) (h (i + 1)) (h (i + 2)) (h (i + 3))
   where
-    by : (b : ℕ) → b < 4 → getD bs i 0 < 256 → getD bs (i + 1) 0 < 256 → getD bs (i + 2) 0 < 256 → getD bs (i + 3) 0 < 256 → byteOf (wordAt bs i) b ≡ getD bs (i + b) 0
+    by : (b : ℕ) → b < 4 → getD bs i 0 < 256 → getD bs (i + 1) 0 < 256 → getD bs (i + 2) 0 < 256 → getD bs (i + 3) 0 < 256
+        → byteOf (wordAt bs i) b ≡ getD bs (i + b) 0
     by zero l p q r s = let same : i + 0 ≡ i = omega arith in rw same (omega arith)
     by (suc zero) l p q r s = omega arith
     by (suc (suc zero)) l p q r s = omega arith

@@ -12,7 +12,7 @@ use lib.Dec.{eqb, ltb}
 use Rattle.lists.specs.If.{if_then_else_}
 use Rattle.lists.specs.Tab.{sum, padded}
 use Rattle.lists.proofs.TabLaws.{length-tab, at-tab, same-sum, sum-more, take-padded}
-use Rattle.file.specs.Layout.{lines, blocksFor, used, plainWord, fileWord, fileByte, fileBytes}
+use Rattle.file.specs.Layout.{linesIn, blocksFor, linesHeld, bodyWord, fileWord, fileByte, fileBytes}
 use Rattle.file.specs.Reading.{word, blocks, linesInAll, tableWord, tableWords, readBuffer}
 use Rattle.file.specs.Statements.{AllBelow, WriteAgain, OneFile}
 use Rattle.file.proofs.WordLaws.{bytes-word}
@@ -23,7 +23,7 @@ module _ (bs : List ℕ) (bytes : AllBelow 256 bs) (n : ℕ) (ok : Accepted bs 5
   right : (k : ℕ) → k < blocks bs → RightBlock bs n k
   right k l = rw (ok .counted) at (ok .right k l)
 
-  lines-table : lines (tableWords bs n) ≡ n
+  lines-table : linesIn (tableWords bs n) ≡ n
   lines-table = rw (length-tab (4 * n) (tableWord bs)) (omega arith)
 
   -- all blocks before the last are full
@@ -40,10 +40,10 @@ module _ (bs : List ℕ) (bytes : AllBelow 256 bs) (n : ℕ) (ok : Accepted bs 5
       by zero e = omega (arith, lines-in-blocks bs (ok .right), ok .counted)
       by (suc m) e = let last = right m (omega arith) in omega (arith, total m (omega arith), last .some, last .few)
 
-  used-table : (k : ℕ) → k < blocks bs → used n k ≡ word bs k 125
+  used-table : (k : ℕ) → k < blocks bs → linesHeld n k ≡ word bs k 125
   used-table k l = by (ltb (k + 1) (blocks bs)) refl
     where
-      by : (t : Bool) → ltb (k + 1) (blocks bs) ≡ t → used n k ≡ word bs k 125
+      by : (t : Bool) → ltb (k + 1) (blocks bs) ≡ t → linesHeld n k ≡ word bs k 125
       by true e = let more : k + 1 < blocks bs = ltb-true _ _ e in omega (arith, right k l .full more, blocks-table)
       by false e = let none : blocks bs ≤ k + 1 = ltb-false _ _ e in let here = right k l in omega (arith, total k (omega arith), here .few)
 
@@ -61,12 +61,13 @@ module _ (bs : List ℕ) (bytes : AllBelow 256 bs) (n : ℕ) (ok : Accepted bs 5
           let short : length (tableWords bs n) ≤ 124 * k + r = rw (length-tab (4 * n) (tableWord bs)) past in
           List·getD-eq-default (tableWords bs n) 0 short ∙ sym (right k l .zeros r (omega (arith, used-table k l)) h)
 
-  plain-again : (k r : ℕ) → k < blocks bs → r < 127 → plainWord (tableWords bs n) k r ≡ word bs k r
-  unfolding plainWord
+  plain-again : (k r : ℕ) → k < blocks bs → r < 127 → bodyWord (tableWords bs n) k r ≡ word bs k r
+  unfolding bodyWord
   plain-again k r l h = by (ltb r 124) (eqb r 124) (eqb r 125) refl refl refl
     where
       by : (t u v : Bool) → ltb r 124 ≡ t → eqb r 124 ≡ u → eqb r 125 ≡ v
-          → (if t then getD (tableWords bs n) (124 * k + r) 0 else if u then k else if v then used (lines (tableWords bs n)) k else lines (tableWords bs n)) ≡ word bs k r
+          → (if t then getD (tableWords bs n) (124 * k + r) 0 else if u then k else if v then linesHeld (linesIn (tableWords bs n)) k
+              else linesIn (tableWords bs n)) ≡ word bs k r
       by true u v e f g = line-again k r l (ltb-true _ _ e)
       by false true v e f g = let here : r ≡ 124 = eqb-true _ _ f in rw here (sym (right k l .number))
       by false false true e f g = let here : r ≡ 125 = eqb-true _ _ g in rw (here, lines-table) (used-table k l)
@@ -81,12 +82,13 @@ module _ (bs : List ℕ) (bytes : AllBelow 256 bs) (n : ℕ) (ok : Accepted bs 5
       by true e = let low : r < 127 = ltb-true _ _ e in word-plain (tableWords bs n) k r low ∙ plain-again k r l low
       by false e =
           let last : r ≡ 127 = omega (arith, ltb-false r 127 e) in
-          rw (last, word-check (tableWords bs n) k, same-sum 127 (plainWord (tableWords bs n) k) (word bs k) (λ r m. plain-again k r l m)) (ok .checked k l)
+          rw (last, word-check (tableWords bs n) k, same-sum 127 (bodyWord (tableWords bs n) k) (word bs k) (λ r m. plain-again k r l m)) (ok .checked k l)
 
   byte-again : (j : ℕ) → j < 512 * blocks bs → fileByte (tableWords bs n) j ≡ getD bs j 0
   byte-again j l =
       let here : 512 * (j / 512) + 4 * (j % 512 / 4) + j % 4 ≡ j = omega arith in
-      rw (word-again (j / 512) (j % 512 / 4) (omega arith) (omega arith)) (bytes-word bs bytes (512 * (j / 512) + 4 * (j % 512 / 4)) (j % 4) (omega arith) ∙ rw here)
+      rw (word-again (j / 512) (j % 512 / 4) (omega arith) (omega arith))
+          (bytes-word bs bytes (512 * (j / 512) + 4 * (j % 512 / 4)) (j % 4) (omega arith) ∙ rw here)
 
   -- the file of the words read is the file
   pub table-again : fileBytes (tableWords bs n) ≡ bs

@@ -1,6 +1,6 @@
 -- What the writer answers, and what it leaves in the bytes lent, by the checks that it has come through.
 -- Assumes nothing.
-use mathlib.Core.Path.{_≡_, refl, sym, ap, _∙_}
+use mathlib.Core.Path.{_≡_}
 use mathlib.Core.Logic.{_≢_}
 use Prim.Native.Nat.{ℕ}
 use mathlib.Core.List.{List}

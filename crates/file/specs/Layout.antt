@@ -8,33 +8,33 @@ use Rattle.lists.specs.If.{if_then_else_}
 use Rattle.lists.specs.Tab.{tab, sum}
 use Rattle.file.specs.Word.{byteOf}
 
--- "A table is lines of four words"
-abbrev pub lines : List ℕ → ℕ
-lines ws = length ws / 4
+-- "A table is lines of four words": how many it has
+abbrev pub linesIn : List ℕ → ℕ
+linesIn ws = length ws / 4
 
 -- "All but the last hold 31 lines, the last 1 to 31"; "No lines, no bytes"
 abbrev pub blocksFor : ℕ → ℕ
 blocksFor n = (n + 30) / 31
 
 -- the lines of block k in a file of n lines
-abbrev pub used : ℕ → ℕ → ℕ
-used n k = min 31 (n - 31 * k)
+abbrev pub linesHeld : ℕ → ℕ → ℕ
+linesHeld n k = min 31 (n - 31 * k)
 
 -- "The check is the sum of the first 127 words modulo 4,294,967,296"
 abbrev pub checkOf : (ℕ → ℕ) → ℕ
 checkOf f = sum 127 f % 2 ^ 32
 
 -- the first 127 words of a block: its lines ("unused lines are zero"), "block number, lines in this block, lines in all"
-unfoldable pub plainWord : List ℕ → ℕ → ℕ → ℕ
-plainWord ws k r =
+unfoldable pub bodyWord : List ℕ → ℕ → ℕ → ℕ
+bodyWord ws k r =
     if ltb r 124 then getD ws (124 * k + r) 0 else
     if eqb r 124 then k else
-    if eqb r 125 then used (lines ws) k else
-    lines ws
+    if eqb r 125 then linesHeld (linesIn ws) k else
+    linesIn ws
 
 -- all 128
 unfoldable pub fileWord : List ℕ → ℕ → ℕ → ℕ
-fileWord ws k r = if ltb r 127 then plainWord ws k r else checkOf (plainWord ws k)
+fileWord ws k r = if ltb r 127 then bodyWord ws k r else checkOf (bodyWord ws k)
 
 -- byte j of the file
 abbrev pub fileByte : List ℕ → ℕ → ℕ
@@ -42,4 +42,4 @@ fileByte ws j = byteOf (fileWord ws (j / 512) (j % 512 / 4)) (j % 4)
 
 -- the file of a table
 unfoldable pub fileBytes : List ℕ → List ℕ
-fileBytes ws = tab (512 * blocksFor (lines ws)) (fileByte ws)
+fileBytes ws = tab (512 * blocksFor (linesIn ws)) (fileByte ws)

@@ -53,16 +53,16 @@ wrongBlock bs n k =
     || not (unusedZero bs k (word bs k 125))
 
 -- the refusal with this number at the block that was found, else what comes after
-abbrev pub refusedAt : ℕ → Found → Read → Read
-refusedAt number (At k) rest = Refused number k
-refusedAt number Nothing rest = rest
+abbrev pub refusedAtBlock : ℕ → Found → Read → Read
+refusedAtBlock number (At k) rest = Refused number k
+refusedAtBlock number Nothing rest = rest
 
 -- the answer (R1, R4), for a buffer of so many words: 1, 2, 3, then 14, "words .. not the stated size" (R12), else the number of lines
 unfoldable pub readAnswer : List ℕ → ℕ → Read
 readAnswer bs room =
     if wrongLength (length bs) then Refused 1 0 else
-    refusedAt 2 (first (wrongCheck bs) 0 (blocks bs))
-    (refusedAt 3 (first (wrongBlock bs (linesInAll bs)) 0 (blocks bs))
+    refusedAtBlock 2 (first (wrongCheck bs) 0 (blocks bs))
+    (refusedAtBlock 3 (first (wrongBlock bs (linesInAll bs)) 0 (blocks bs))
     (if eqb room 5248 then Lines (linesInAll bs) else Refused 14 0))
 
 -- the table's words: 31 lines, 124 words, in a block

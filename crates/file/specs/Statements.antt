@@ -5,7 +5,7 @@ use mathlib.Core.List.{List}
 use lib.ListN.{length, getD, take}
 use Rattle.lists.specs.Tab.{padded}
 use Rattle.file.specs.declared.Read.the-variants.{Lines}
-use Rattle.file.specs.Layout.{lines, fileBytes}
+use Rattle.file.specs.Layout.{linesIn, fileBytes}
 use Rattle.file.specs.declared.Written.the-variants.{Bytes}
 use Rattle.file.specs.Reading.{readAnswer, readBuffer}
 use Rattle.file.specs.Writing.{writeAnswer, writeBuffer}
@@ -13,15 +13,15 @@ use Rattle.model.specs.State.MachineKind.{plain}
 use Rattle.table.specs.declared.Verdict.the-variants.{Passes}
 use Rattle.table.specs.Checks.{tableCheck}
 
--- every number of the list is below m
+-- every number of the list is below n
 abbrev pub AllBelow : ℕ → List ℕ → Type 0
-AllBelow m xs = (i : ℕ) → getD xs i 0 < m
+AllBelow n xs = (i : ℕ) → getD xs i 0 < n
 
 -- a written file reads back as its table: "The reader fills 5,248 words"
 abbrev pub ReadBack : Type 0
 ReadBack =
     (ws : List ℕ) → AllBelow (2 ^ 32) ws → length ws % 4 ≡ 0 → length ws ≤ 5248 → (buffer : List ℕ) → length buffer ≡ 5248
-    → (readAnswer (fileBytes ws) (length buffer) ≡ Lines (lines ws)) × (readBuffer (fileBytes ws) buffer ≡ padded 5248 ws)
+    → (readAnswer (fileBytes ws) (length buffer) ≡ Lines (linesIn ws)) × (readBuffer (fileBytes ws) buffer ≡ padded 5248 ws)
 
 -- a file that is read, its n lines written again, is the same file, byte for byte
 abbrev pub WriteAgain : Type 0
@@ -39,11 +39,12 @@ OneFile =
 abbrev pub WrittenReadsBack : Type 0
 WrittenReadsBack =
     (w : List ℕ) → AllBelow (2 ^ 32) w → (out : List ℕ) (n : ℕ) → writeAnswer w (length out) ≡ Bytes n → (buffer : List ℕ) → length buffer ≡ 5248
-    → (readAnswer (take n (writeBuffer w out)) (length buffer) ≡ Lines (lines w)) × (readBuffer (take n (writeBuffer w out)) buffer ≡ padded 5248 w)
+    → (readAnswer (take n (writeBuffer w out)) (length buffer) ≡ Lines (linesIn w)) × (readBuffer (take n (writeBuffer w out)) buffer ≡ padded 5248 w)
 
 -- demand 2: "a read file whose table passes is written again byte for byte"
 abbrev pub ReadIsWrittenAgain : Type 0
 ReadIsWrittenAgain =
     (bs : List ℕ) → AllBelow 256 bs → (buffer : List ℕ) (n : ℕ) → readAnswer bs (length buffer) ≡ Lines n
     → tableCheck plain (take (4 * n) (readBuffer bs buffer)) ≡ Passes → (out : List ℕ) → length out ≡ 22016
-    → (writeAnswer (take (4 * n) (readBuffer bs buffer)) (length out) ≡ Bytes (length bs)) × (take (length bs) (writeBuffer (take (4 * n) (readBuffer bs buffer)) out) ≡ bs)
+    → (writeAnswer (take (4 * n) (readBuffer bs buffer)) (length out) ≡ Bytes (length bs))
+        × (take (length bs) (writeBuffer (take (4 * n) (readBuffer bs buffer)) out) ≡ bs)

@@ -8,12 +8,12 @@ ghost use mathlib.Core.Path.{_≡_};
 ghost use Prim.Native.Nat.{_+_, _*_, _<_, _≤_};
 ghost use lib.ListN.{length, take};
 ghost use Rattle.lists.specs.Tab.{tab, padded};
-ghost use Rattle.file.specs.Layout.{used, plainWord, fileByte};
+ghost use Rattle.file.specs.Layout.{linesHeld, bodyWord, fileByte};
 
 // The lines of block k in a file of n lines.
-fn used_in(n: usize, k: usize) -> u32
+fn lines_held(n: usize, k: usize) -> u32
     requires { ⌜ k < 43 ⌝ }
-    ensures { λ r. ⌜ r ≡ used n k ⌝ }
+    ensures { λ r. ⌜ r ≡ linesHeld n k ⌝ }
 {
     if n < 31 * k {
         return 0;
@@ -25,9 +25,9 @@ fn used_in(n: usize, k: usize) -> u32
 }
 
 // Word r of block k, the check left out.
-fn plain_word(ws: &[u32], k: usize, r: usize) -> u32
+fn body_word(ws: &[u32], k: usize, r: usize) -> u32
     requires { ⌜ (length (now ws) ≤ 5248) × (k < 43) × (r < 127) ⌝ }
-    ensures { λ w. ⌜ w ≡ plainWord (now (ws .entry)) k r ⌝ }
+    ensures { λ w. ⌜ w ≡ bodyWord (now (ws .entry)) k r ⌝ }
 {
     if r < LINE_WORDS {
         return word_or_zero(ws, LINE_WORDS * k + r);
@@ -36,7 +36,7 @@ fn plain_word(ws: &[u32], k: usize, r: usize) -> u32
         return k as u32;
     }
     if r == 125 {
-        return used_in(ws.len() / 4, k);
+        return lines_held(ws.len() / 4, k);
     }
     (ws.len() / 4) as u32
 }
@@ -50,7 +50,7 @@ pub(crate) fn put_block(ws: &[u32], out: &mut [u8], k: usize)
     let mut sum: u32 = 0;
     let mut r: usize = 0;
     while r < 127 {
-        let w = plain_word(ws, k, r);
+        let w = body_word(ws, k, r);
         put_word(out, BLOCK * k + 4 * r, w);
         sum = std::num::wrapping_add_u32(sum, w);
         r += 1;

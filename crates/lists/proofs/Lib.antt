@@ -3,4 +3,5 @@ pub mod TabLaws
 pub mod FirstLaws
 pub mod FallingLaws
 pub mod CountLaws
+pub mod BoolLaws
 pub mod Flags

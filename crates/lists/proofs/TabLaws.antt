@@ -8,8 +8,8 @@ use mathlib.Core.Path.{_≡_, refl, sym, ap, _∙_}
 use mathlib.Core.Logic.{⊎-elim}
 use mathlib.Core.Bool.{Bool, true, false, _&&_, false≢true}
 use mathlib.Core.List.{List, [], _∷_, _++_}
-use lib.ListN.{length, getD, take, set, length-append, length-take, List·getD-append, List·getD-eq-default}
-use lib.Seq.{getD-at, take-suc-set, take-all, ext-getD, getD-take}
+use lib.ListN.{length, getD, take, set, length-take, List·getD-eq-default}
+use lib.Seq.{take-suc-set, take-all, ext-getD, getD-take}
 use Rattle.lists.specs.Tab.{listed, tab, sum, all, padded}
 
 length-listed : {A : Type 0} (n i : ℕ) (f : ℕ → A) → length (listed n i f) ≡ n

@@ -7,6 +7,7 @@ use mathlib.Core.Bool.{Bool}
 use lib.ListN.{drop}
 use types.Run.{OneOf, miss}
 use denote.Enum.Declared.{tagOf}
+use Rattle.machine.specs.CodeAnswers.{outOf, failingOf, Lent, operand, Says}
 use Rattle.lists.specs.If.{if_then_else_}
 use Rattle.model.specs.Table.{Ty}
 use Rattle.model.specs.Table.Ty.{bool, uint, pointer}
@@ -17,8 +18,7 @@ use Rattle.model.specs.Eval.{Of, Ptr, ptr}
 use Rattle.machine.proofs.answers.Answer.{the-type as answer}
 use Rattle.machine.specs.declared.answers.Answer.{Answer}
 use Rattle.machine.specs.declared.answers.Answer.the-variants.{Bool as ABool, Uint as AUint, Pointer as APointer, Fails, BadChoice, NoChoice, Stuck}
-use Rattle.machine.specs.View.{outOf, failingOf, Lent, operand, Says}
-use Rattle.machine.specs.Leaves.{arith, movedBy, validIn, testOf}
+use Rattle.machine.specs.CodeLeaves.{arith, movedBy, validIn, testOf}
 
 -- an operand's answer x, by its tag
 pub with-value : (x : Answer) → OneOf (0 ∷ 1 ∷ 2 ∷ []) (tagOf answer x) → Stuck ≡ failingOf x
@@ -47,7 +47,8 @@ followed w o k = next o k
 unfoldable pub branch : Lent → (w : Ty) → ℕ → ℕ → ℕ → Bool → Work (Of w)
 branch e w n b c y = operand e w n (if y then b else c)
 
-no-uint : (w : Ty) (l : List ℕ) (x : Answer) (k : ℕ → Work (Of w)) → OneOf (0 ∷ 2 ∷ 3 ∷ 4 ∷ 5 ∷ 6 ∷ []) (tagOf answer x) → outOf w l (failingOf x) ≡ followed w (outOf uint l x) k
+no-uint : (w : Ty) (l : List ℕ) (x : Answer) (k : ℕ → Work (Of w)) → OneOf (0 ∷ 2 ∷ 3 ∷ 4 ∷ 5 ∷ 6 ∷ []) (tagOf answer x)
+    → outOf w l (failingOf x) ≡ followed w (outOf uint l x) k
 unfolding outOf followed
 no-uint w l (ABool b at) k h = refl
 no-uint w l (AUint v at) k h = absurd (miss (0 ∷ 2 ∷ 3 ∷ 4 ∷ 5 ∷ 6 ∷ []) 1 tt h)
@@ -57,7 +58,8 @@ no-uint w l BadChoice k h = refl
 no-uint w l NoChoice k h = refl
 no-uint w l Stuck k h = refl
 
-no-pointer : (w : Ty) (l : List ℕ) (x : Answer) (k : Ptr → Work (Of w)) → OneOf (0 ∷ 1 ∷ 3 ∷ 4 ∷ 5 ∷ 6 ∷ []) (tagOf answer x) → outOf w l (failingOf x) ≡ followed w (outOf pointer l x) k
+no-pointer : (w : Ty) (l : List ℕ) (x : Answer) (k : Ptr → Work (Of w)) → OneOf (0 ∷ 1 ∷ 3 ∷ 4 ∷ 5 ∷ 6 ∷ []) (tagOf answer x)
+    → outOf w l (failingOf x) ≡ followed w (outOf pointer l x) k
 unfolding outOf followed
 no-pointer w l (ABool b at) k h = refl
 no-pointer w l (AUint v at) k h = refl
@@ -67,7 +69,8 @@ no-pointer w l BadChoice k h = refl
 no-pointer w l NoChoice k h = refl
 no-pointer w l Stuck k h = refl
 
-no-bool : (w : Ty) (l : List ℕ) (x : Answer) (k : Bool → Work (Of w)) → OneOf (1 ∷ 2 ∷ 3 ∷ 4 ∷ 5 ∷ 6 ∷ []) (tagOf answer x) → outOf w l (failingOf x) ≡ followed w (outOf bool l x) k
+no-bool : (w : Ty) (l : List ℕ) (x : Answer) (k : Bool → Work (Of w)) → OneOf (1 ∷ 2 ∷ 3 ∷ 4 ∷ 5 ∷ 6 ∷ []) (tagOf answer x)
+    → outOf w l (failingOf x) ≡ followed w (outOf bool l x) k
 unfolding outOf followed
 no-bool w l (ABool b at) k h = absurd (miss (1 ∷ 2 ∷ 3 ∷ 4 ∷ 5 ∷ 6 ∷ []) 0 tt h)
 no-bool w l (AUint v at) k h = refl
@@ -83,21 +86,26 @@ module _ (w : Ty) (l : List ℕ) (x z : Answer) where
   unfolding outOf followed
   then-uint k p q h = h ∙ ap (λ (o : Out ℕ). followed w o k) (sym (ap (outOf uint l) q) ∙ p)
 
-  pub else-uint : {o : Out ℕ} (k : ℕ → Work (Of w)) → outOf uint l x ≡ o → OneOf (0 ∷ 2 ∷ 3 ∷ 4 ∷ 5 ∷ 6 ∷ []) (tagOf answer x) → z ≡ failingOf x → outOf w l z ≡ followed w o k
+  pub else-uint : {o : Out ℕ} (k : ℕ → Work (Of w)) → outOf uint l x ≡ o → OneOf (0 ∷ 2 ∷ 3 ∷ 4 ∷ 5 ∷ 6 ∷ []) (tagOf answer x) → z ≡ failingOf x
+      → outOf w l z ≡ followed w o k
   else-uint k p h e = ap (outOf w l) e ∙ no-uint w l x k h ∙ ap (λ (o : Out ℕ). followed w o k) p
 
-  pub then-pointer : {o : Out Ptr} {r p m : ℕ} (k : Ptr → Work (Of w)) → outOf pointer l x ≡ o → x ≡ APointer r p m → outOf w l z ≡ k (ptr r p) (drop m l) → outOf w l z ≡ followed w o k
+  pub then-pointer : {o : Out Ptr} {r p m : ℕ} (k : Ptr → Work (Of w)) → outOf pointer l x ≡ o → x ≡ APointer r p m → outOf w l z ≡ k (ptr r p) (drop m l)
+      → outOf w l z ≡ followed w o k
   unfolding outOf followed
   then-pointer k p q h = h ∙ ap (λ (o : Out Ptr). followed w o k) (sym (ap (outOf pointer l) q) ∙ p)
 
-  pub else-pointer : {o : Out Ptr} (k : Ptr → Work (Of w)) → outOf pointer l x ≡ o → OneOf (0 ∷ 1 ∷ 3 ∷ 4 ∷ 5 ∷ 6 ∷ []) (tagOf answer x) → z ≡ failingOf x → outOf w l z ≡ followed w o k
+  pub else-pointer : {o : Out Ptr} (k : Ptr → Work (Of w)) → outOf pointer l x ≡ o → OneOf (0 ∷ 1 ∷ 3 ∷ 4 ∷ 5 ∷ 6 ∷ []) (tagOf answer x) → z ≡ failingOf x
+      → outOf w l z ≡ followed w o k
   else-pointer k p h e = ap (outOf w l) e ∙ no-pointer w l x k h ∙ ap (λ (o : Out Ptr). followed w o k) p
 
-  pub then-bool : {o : Out Bool} {b : Bool} {m : ℕ} (k : Bool → Work (Of w)) → outOf bool l x ≡ o → x ≡ ABool b m → outOf w l z ≡ k b (drop m l) → outOf w l z ≡ followed w o k
+  pub then-bool : {o : Out Bool} {b : Bool} {m : ℕ} (k : Bool → Work (Of w)) → outOf bool l x ≡ o → x ≡ ABool b m → outOf w l z ≡ k b (drop m l)
+      → outOf w l z ≡ followed w o k
   unfolding outOf followed
   then-bool k p q h = h ∙ ap (λ (o : Out Bool). followed w o k) (sym (ap (outOf bool l) q) ∙ p)
 
-  pub else-bool : {o : Out Bool} (k : Bool → Work (Of w)) → outOf bool l x ≡ o → OneOf (1 ∷ 2 ∷ 3 ∷ 4 ∷ 5 ∷ 6 ∷ []) (tagOf answer x) → z ≡ failingOf x → outOf w l z ≡ followed w o k
+  pub else-bool : {o : Out Bool} (k : Bool → Work (Of w)) → outOf bool l x ≡ o → OneOf (1 ∷ 2 ∷ 3 ∷ 4 ∷ 5 ∷ 6 ∷ []) (tagOf answer x) → z ≡ failingOf x
+      → outOf w l z ≡ followed w o k
   else-bool k p h e = ap (outOf w l) e ∙ no-bool w l x k h ∙ ap (λ (o : Out Bool). followed w o k) p
 
 pub right-id : {A : Type 0} (o : Out A) → next o give ≡ o
@@ -138,24 +146,30 @@ module _ (e : Lent) (l cs : List ℕ) (n b c j : ℕ) (y : Bool) (x : Answer) wh
   unfolding branch
   taken w h = ap (λ (k : ℕ). operand e w n k cs) h
 
-  pub branch-uint : {v m : ℕ} → j ≡ (if y then b else c) → outOf uint l x ≡ operand e uint n j cs → x ≡ AUint v m → outOf uint l (AUint v m) ≡ branch e uint n b c y cs
+  pub branch-uint : {v m : ℕ} → j ≡ (if y then b else c) → outOf uint l x ≡ operand e uint n j cs → x ≡ AUint v m
+      → outOf uint l (AUint v m) ≡ branch e uint n b c y cs
   branch-uint h p q = anew-uint l x (p ∙ taken uint h) q
 
-  pub branch-no-uint : {z : Answer} → j ≡ (if y then b else c) → outOf uint l x ≡ operand e uint n j cs → OneOf (0 ∷ 2 ∷ 3 ∷ 4 ∷ 5 ∷ 6 ∷ []) (tagOf answer x) → z ≡ failingOf x
+  pub branch-no-uint : {z : Answer} → j ≡ (if y then b else c) → outOf uint l x ≡ operand e uint n j cs
+      → OneOf (0 ∷ 2 ∷ 3 ∷ 4 ∷ 5 ∷ 6 ∷ []) (tagOf answer x) → z ≡ failingOf x
       → outOf uint l z ≡ branch e uint n b c y cs
   branch-no-uint h p k q = lost-uint l x (p ∙ taken uint h) k q
 
-  pub branch-pointer : {r v m : ℕ} → j ≡ (if y then b else c) → outOf pointer l x ≡ operand e pointer n j cs → x ≡ APointer r v m → outOf pointer l (APointer r v m) ≡ branch e pointer n b c y cs
+  pub branch-pointer : {r v m : ℕ} → j ≡ (if y then b else c) → outOf pointer l x ≡ operand e pointer n j cs → x ≡ APointer r v m
+      → outOf pointer l (APointer r v m) ≡ branch e pointer n b c y cs
   branch-pointer h p q = anew-pointer l x (p ∙ taken pointer h) q
 
-  pub branch-no-pointer : {z : Answer} → j ≡ (if y then b else c) → outOf pointer l x ≡ operand e pointer n j cs → OneOf (0 ∷ 1 ∷ 3 ∷ 4 ∷ 5 ∷ 6 ∷ []) (tagOf answer x) → z ≡ failingOf x
+  pub branch-no-pointer : {z : Answer} → j ≡ (if y then b else c) → outOf pointer l x ≡ operand e pointer n j cs
+      → OneOf (0 ∷ 1 ∷ 3 ∷ 4 ∷ 5 ∷ 6 ∷ []) (tagOf answer x) → z ≡ failingOf x
       → outOf pointer l z ≡ branch e pointer n b c y cs
   branch-no-pointer h p k q = lost-pointer l x (p ∙ taken pointer h) k q
 
-  pub branch-bool : {v : Bool} {m : ℕ} → j ≡ (if y then b else c) → outOf bool l x ≡ operand e bool n j cs → x ≡ ABool v m → outOf bool l (ABool v m) ≡ branch e bool n b c y cs
+  pub branch-bool : {v : Bool} {m : ℕ} → j ≡ (if y then b else c) → outOf bool l x ≡ operand e bool n j cs → x ≡ ABool v m
+      → outOf bool l (ABool v m) ≡ branch e bool n b c y cs
   branch-bool h p q = anew-bool l x (p ∙ taken bool h) q
 
-  pub branch-no-bool : {z : Answer} → j ≡ (if y then b else c) → outOf bool l x ≡ operand e bool n j cs → OneOf (1 ∷ 2 ∷ 3 ∷ 4 ∷ 5 ∷ 6 ∷ []) (tagOf answer x) → z ≡ failingOf x
+  pub branch-no-bool : {z : Answer} → j ≡ (if y then b else c) → outOf bool l x ≡ operand e bool n j cs
+      → OneOf (1 ∷ 2 ∷ 3 ∷ 4 ∷ 5 ∷ 6 ∷ []) (tagOf answer x) → z ≡ failingOf x
       → outOf bool l z ≡ branch e bool n b c y cs
   branch-no-bool h p k q = lost-bool l x (p ∙ taken bool h) k q
 
@@ -163,7 +177,8 @@ module _ (e : Lent) (l cs : List ℕ) (n b c j : ℕ) (y : Bool) (x : Answer) wh
 pub says-arith : (l : List ℕ) (z : Answer) (at : ℕ) (m : Bool) (v y : ℕ) → Says uint at z (arith m v y) → outOf uint l z ≡ arith m v y (drop at l)
 says-arith l z at m v y h = h .said l
 
-pub says-moved : (l : List ℕ) (z : Answer) (at : ℕ) (m : Bool) (r v y : ℕ) → Says pointer at z (movedBy m r v y) → outOf pointer l z ≡ movedBy m r v y (drop at l)
+pub says-moved : (l : List ℕ) (z : Answer) (at : ℕ) (m : Bool) (r v y : ℕ) → Says pointer at z (movedBy m r v y)
+    → outOf pointer l z ≡ movedBy m r v y (drop at l)
 says-moved l z at m r v y h = h .said l
 
 pub says-valid : (l : List ℕ) (z : Answer) (at : ℕ) (rs : List Array) (r v : ℕ) → Says bool at z (validIn rs r v) → outOf bool l z ≡ validIn rs r v (drop at l)
@@ -177,13 +192,15 @@ unfolding tested
 says-tested l z at k x y h = h .said l
 
 -- a shifted pointer
-pub moved-then : (at : ℕ) (m : Bool) (to v y : ℕ) {x : Answer} {z nx : ℕ} → Says uint at x (arith m v y) → x ≡ AUint z nx → Says pointer at (APointer to z nx) (movedBy m to v y)
+pub moved-then : (at : ℕ) (m : Bool) (to v y : ℕ) {x : Answer} {z nx : ℕ} → Says uint at x (arith m v y) → x ≡ AUint z nx
+    → Says pointer at (APointer to z nx) (movedBy m to v y)
 unfolding movedBy outOf followed
 moved-then at m to v y {x} {z} {nx} s e = record { said = λ l. then-uint pointer l x (APointer to z nx) (λ q. give (ptr to q)) (s .said l) e (out l) }
   where
     out : (l : List ℕ) → outOf pointer l (APointer to z nx) ≡ gives (ptr to z) (drop nx l)
     out l = refl
 
-pub moved-else : (at : ℕ) (m : Bool) (to v y : ℕ) {x z : Answer} → Says uint at x (arith m v y) → OneOf (0 ∷ 2 ∷ 3 ∷ 4 ∷ 5 ∷ 6 ∷ []) (tagOf answer x) → z ≡ failingOf x → Says pointer at z (movedBy m to v y)
+pub moved-else : (at : ℕ) (m : Bool) (to v y : ℕ) {x z : Answer} → Says uint at x (arith m v y) → OneOf (0 ∷ 2 ∷ 3 ∷ 4 ∷ 5 ∷ 6 ∷ []) (tagOf answer x)
+    → z ≡ failingOf x → Says pointer at z (movedBy m to v y)
 unfolding movedBy followed
 moved-else at m to v y {x} {z} s h e = record { said = λ l. else-uint pointer l x z (λ q. give (ptr to q)) (s .said l) h e }

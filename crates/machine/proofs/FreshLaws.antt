@@ -18,16 +18,18 @@ use Rattle.model.specs.Table.Ty.{bool, uint, pointer}
 use Rattle.model.specs.State.{classed, startOf, zeroOf}
 use Rattle.model.specs.State.Value.{Class}
 use Rattle.machine.specs.View.{bySort, kindOf, places, sortFor, sortIn, tableFor, varsOf}
-use Rattle.machine.specs.Fresh.{freshVars, startBySort, startNumber}
+use Rattle.machine.specs.CodeFresh.{freshVars, startBySort, startNumber}
 
 module _ (t : List ℕ) (f : Frame) (ns bs : List ℕ) where
   -- one variable, by what it holds
-  start-is : (i : ℕ) → getD ns i 0 ≡ startNumber t f i → getD bs i 0 ≡ 0 → bySort (sortIn t f i) (getD ns i 0) (getD bs i 0) ≡ startOf (places f) (kindOf f) (tableFor t f) i
+  start-is : (i : ℕ) → getD ns i 0 ≡ startNumber t f i → getD bs i 0 ≡ 0
+      → bySort (sortIn t f i) (getD ns i 0) (getD bs i 0) ≡ startOf (places f) (kindOf f) (tableFor t f) i
   unfolding startNumber sortIn
   start-is i n b = rw (n, b) (go (classed (kindOf f) (tableFor t f) i) (typeAt (tableFor t f) i))
     where
       go : (c : Bool) (w : Ty)
-          → bySort (if c then Sort.Class else sortFor w) (startBySort (places f) (if c then Sort.Class else sortFor w)) 0 ≡ (if c then Class (class (places f) 0) else zeroOf w)
+          → bySort (if c then Sort.Class else sortFor w) (startBySort (places f) (if c then Sort.Class else sortFor w)) 0
+              ≡ (if c then Class (class (places f) 0) else zeroOf w)
       go true w = refl
       go false bool = refl
       go false uint = refl
@@ -37,4 +39,5 @@ module _ (t : List ℕ) (f : Frame) (ns bs : List ℕ) where
   unfolding varsOf freshVars
   fresh-vars h e b =
       same-tab (f .decls) (λ i. bySort (sortIn t f i) (getD ns i 0) (getD bs i 0)) (startOf (places f) (kindOf f) (tableFor t f))
-      (λ i l. start-is i (sym (getD-take (f .decls) ns i 0 l) ∙ ap (λ (xs : List ℕ). getD xs i 0) e ∙ at-tab (f .decls) (startNumber t f) 0 i l) (ap (λ (xs : List ℕ). getD xs i 0) b ∙ getD-replicate 32 i 0 0 (omega arith)))
+      (λ i l. start-is i (sym (getD-take (f .decls) ns i 0 l) ∙ ap (λ (xs : List ℕ). getD xs i 0) e ∙ at-tab (f .decls) (startNumber t f) 0 i l)
+          (ap (λ (xs : List ℕ). getD xs i 0) b ∙ getD-replicate 32 i 0 0 (omega arith)))

@@ -14,6 +14,7 @@ use lib.Dec.{leb, eqb}
 use borrow.Author.Tests.{lt-ltb, le-ltb, le-leb, lt-leb, ne-eqb}
 use types.Run.{OneOf, miss}
 use denote.Enum.Declared.{tagOf}
+use Rattle.machine.specs.CodeAnswers.{outOf, Says, operand}
 use Rattle.lists.specs.If.{if_then_else_}
 use Rattle.lists.specs.Tab.{tab, listed, all}
 use Rattle.lists.specs.First.{walk}
@@ -26,10 +27,10 @@ use Rattle.model.specs.Table.Ty.{uint}
 use Rattle.model.specs.Table.Row.{skip, assign, store, assert, assume, array, loop, loopEnd, reducedStore, reducedArray, classLoop, noRow}
 use Rattle.model.specs.Work.{Out, Work, next, _>>=_, give}
 use Rattle.model.specs.Work.Out.{gives, fails, badChoice, noChoice, stuck}
-use Rattle.model.specs.State.{Value, Loop, State, sortOf}
+use Rattle.model.specs.State.{Value, Loop, State, formOf, position}
 use Rattle.model.specs.State.Value.{Class}
 use Rattle.model.specs.Eval.{add}
-use Rattle.model.specs.Step.{Move, goTo, withLoops, setVar, pastEnd, enter, loopAt, repeatLoop, rowRule}
+use Rattle.model.specs.Step.{Move, goTo, opened, withHere, withLoops, setVar, pastEnd, enter, loopAt, repeatLoop, rowRule}
 use Rattle.model.specs.Step.Move.{to}
 use Rattle.machine.proofs.answers.Answer.{the-type as answer}
 use Rattle.machine.proofs.loops.Bounds.{the-type as bounds}
@@ -41,11 +42,12 @@ use Rattle.machine.specs.declared.loops.Bounds.{Bounds}
 use Rattle.machine.specs.declared.loops.Bounds.the-variants.{Both, Fails as BFails, BadChoice as BBad, NoChoice as BNone, Stuck as BStuck}
 use Rattle.machine.specs.declared.rows.Outcome.{Outcome}
 use Rattle.machine.specs.declared.rows.Outcome.the-variants.{Goes, Stuck as OStuck}
-use Rattle.machine.specs.View.{places, tableFor, sortIn, bySort, loopIn, loopsOf, stateOf, outOf, Says, operand}
-use Rattle.machine.specs.Leaves.{arith}
-use Rattle.machine.specs.Rows.{outcomeOut, moveOut}
-use Rattle.machine.specs.Moves.{endedOf, heldSort, fitsIn, withValue}
-use Rattle.machine.specs.Loops.{Range, range, twoOf, boundsOf, inClassOf, chosenBounds, boundsOut, boundsEnd, endedBounds, BoolsFit, loopRow, iterSort, iterNumber, iterOf, outer, outBy, foundOut, Leads, Near}
+use Rattle.machine.specs.View.{places, tableFor, sortIn, bySort, loopIn, loopsOf, stateOf}
+use Rattle.machine.specs.CodeLeaves.{arith}
+use Rattle.machine.specs.CodeRows.{outcomeOut, moveOut}
+use Rattle.machine.specs.CodeMoves.{endedOf, heldSort, fitsIn, withValue}
+use Rattle.machine.specs.CodeLoops.{Range, range, twoOf, boundsOf, inClassOf, chosenBounds, boundsOut, boundsEnd, endedBounds, BoolsFit, loopRow}
+use Rattle.machine.specs.CodeLoops.{iterSort, iterNumber, iterOf, outer, outBy, foundOut, Leads, Near}
 use Rattle.machine.proofs.MoveLaws.{lends, fits-both, set-to, set-off, held-uint, held-class, ends-uint}
 
 -- ---- start and end
@@ -58,7 +60,8 @@ other-bounds BadChoice h = absurd (miss (0 ∷ 1 ∷ 2 ∷ 6 ∷ []) 4 tt h)
 other-bounds NoChoice h = absurd (miss (0 ∷ 1 ∷ 2 ∷ 6 ∷ []) 5 tt h)
 other-bounds Stuck h = refl
 
-no-bound : (l : List ℕ) (x : Answer) (k : ℕ → Work Range) → OneOf (0 ∷ 2 ∷ 3 ∷ 4 ∷ 5 ∷ 6 ∷ []) (tagOf answer x) → boundsOut l (boundsEnd x) ≡ next (outOf uint l x) k
+no-bound : (l : List ℕ) (x : Answer) (k : ℕ → Work Range) → OneOf (0 ∷ 2 ∷ 3 ∷ 4 ∷ 5 ∷ 6 ∷ []) (tagOf answer x)
+    → boundsOut l (boundsEnd x) ≡ next (outOf uint l x) k
 unfolding outOf boundsOut
 no-bound l (ABool b at) k h = refl
 no-bound l (AUint v at) k h = absurd (miss (0 ∷ 2 ∷ 3 ∷ 4 ∷ 5 ∷ 6 ∷ []) 1 tt h)
@@ -125,14 +128,15 @@ loops-split d rs ss es = ext-getD noLoop (tab (suc d) inner) (loopIn rs ss es d 
         at-tab (suc d) inner noLoop (suc j) h ∙ ap (loopIn rs ss es) e ∙ sym (at-tab d rest noLoop j (omega numbers))
 
 loops-push : (d r x y : ℕ) (rs ss es : List ℕ) → d < length rs → d < length ss → d < length es
-    → loopsOf (suc d) (set rs d r) (set ss d x) (set es d y) ≡ record { row = r; start = x; end = y } ∷ loopsOf d rs ss es
+    → loopsOf (suc d) (set rs d r) (set ss d x) (set es d y) ≡ opened r x y ∷ loopsOf d rs ss es
 unfolding loopsOf
 loops-push d r x y rs ss es hr hs he =
     loops-split d (set rs d r) (set ss d x) (set es d y)
     ∙ ap (λ (q : Loop). q ∷ loopsOf d (set rs d r) (set ss d x) (set es d y)) head
-    ∙ ap (λ (qs : List Loop). record { row = r; start = x; end = y } ∷ qs) (same-tab d (λ i. loopIn (set rs d r) (set ss d x) (set es d y) (d - suc i)) (λ i. loopIn rs ss es (d - suc i)) below)
+    ∙ ap (λ (qs : List Loop). opened r x y ∷ qs)
+        (same-tab d (λ i. loopIn (set rs d r) (set ss d x) (set es d y) (d - suc i)) (λ i. loopIn rs ss es (d - suc i)) below)
   where
-    head : loopIn (set rs d r) (set ss d x) (set es d y) d ≡ record { row = r; start = x; end = y }
+    head : loopIn (set rs d r) (set ss d x) (set es d y) d ≡ opened r x y
     head = rw (getD-set-same rs d r 0 hr, getD-set-same ss d x 0 hs, getD-set-same es d y 0 he)
 
     below : (i : ℕ) → i < d → loopIn (set rs d r) (set ss d x) (set es d y) (d - suc i) ≡ loopIn rs ss es (d - suc i)
@@ -182,22 +186,24 @@ module _ (t : List ℕ) (f : Frame) (m : Machine) (row : ℕ) (c : Bool) (from u
   inside = withLoops (stateOf t f m cells) (outer m depth)
 
   abbrev after : State → Work Move
-  after s = if leb from upto then give (to (goTo (withLoops s (record { row = row; start = from; end = upto } ∷ s .loops)) (suc row))) else (λ cs. next (outBy again (m .row) (tableFor t f) row cs) (λ q. give (to (goTo s q))))
+  after s = if leb from upto then give (to (withHere s (position (suc row) (opened row from upto ∷ s .here .loops))))
+      else (λ cs. next (outBy again (m .row) (tableFor t f) row cs) (λ q. give (to (goTo s q))))
 
   abbrev entering : Out Move
   entering = enter (tableFor t f) inside row iter from upto (outBy again (m .row) (tableFor t f) row) (drop at l)
 
-  sort-iter : sortOf iter ≡ iterSort c
+  sort-iter : formOf iter ≡ iterSort c
   sort-iter = go c
     where
-      go : (c : Bool) → sortOf (iterOf (places f) c from) ≡ iterSort c
+      go : (c : Bool) → formOf (iterOf (places f) c from) ≡ iterSort c
       go true = refl
       go false = refl
 
   iter-is : fitsIn t f (m .numbers) a k ≡ true → bySort (sortIn t f a) v 0 ≡ iter
   iter-is e = ap (λ (x : ℕ). bySort (sortIn t f a) x 0) ev ∙ go c (fits-both t f (m .numbers) a k e .1 ∙ ek)
     where
-      go : (c : Bool) → heldSort (sortIn t f a) (getD (m .numbers) a 0) ≡ iterSort c → bySort (sortIn t f a) (iterNumber (places f) c from) 0 ≡ iterOf (places f) c from
+      go : (c : Bool) → heldSort (sortIn t f a) (getD (m .numbers) a 0) ≡ iterSort c
+          → bySort (sortIn t f a) (iterNumber (places f) c from) 0 ≡ iterOf (places f) c from
       go true h = rw (held-class (sortIn t f a) (getD (m .numbers) a 0) h)
       go false h = rw (held-uint (sortIn t f a) (getD (m .numbers) a 0) h)
 
@@ -206,42 +212,49 @@ module _ (t : List ℕ) (f : Frame) (m : Machine) (row : ℕ) (c : Bool) (from u
       let below : a < f .decls = fits-both t f (m .numbers) a k e .0 in
       let hn : a < length (m .numbers) = omega numbers in
       let hb : a < length (m .bases) = omega numbers in
-      ap (λ (o : Out State). next o after) (sym (set-to t f (withOpen m depth) cells a iter (drop at l) v 0 (ap (fitsIn t f (m .numbers) a) (sort-iter ∙ sym ek) ∙ e) hn hb (iter-is e)))
+      ap (λ (o : Out State). next o after)
+          (sym (set-to t f (withOpen m depth) cells a iter (drop at l) v 0 (ap (fitsIn t f (m .numbers) a) (sort-iter ∙ sym ek) ∙ e) hn hb (iter-is e)))
       ∙ ap (λ (i : ℕ). next (setVar inside i iter (drop at l)) after) ea
 
   pub enter-in : fitsIn t f (m .numbers) a k ≡ true → from ≤ upto → depth < length (m .«loop_rows») → depth < length (m .starts) → depth < length (m .ends)
       → moveOut t f (entered m a v depth row from upto) cells l (Goes at) ≡ entering
   unfolding outcomeOut
-  enter-in e h hr hs he = ap (λ (s : State). gives (to s) (drop at l)) there ∙ opened ∙ setting e
+  enter-in e h hr hs he = ap (λ (s : State). gives (to s) (drop at l)) there ∙ opening ∙ setting e
     where
       there : stateOf t f (entered m a v depth row from upto) cells
-          ≡ goTo (withLoops (stateOf t f (withValue (withOpen m depth) a v 0 (m .row)) cells) (record { row = row; start = from; end = upto } ∷ outer m depth)) (suc row)
+          ≡ withHere (stateOf t f (withValue (withOpen m depth) a v 0 (m .row)) cells) (position (suc row) (opened row from upto ∷ outer m depth))
       there = rw (add-one depth, add-one row, loops-push depth row from upto (m .«loop_rows») (m .starts) (m .ends) hr hs he)
 
-      opened : gives (to (goTo (withLoops (stateOf t f (withValue (withOpen m depth) a v 0 (m .row)) cells) (record { row = row; start = from; end = upto } ∷ outer m depth)) (suc row))) (drop at l)
+      opening : gives (to (withHere (stateOf t f (withValue (withOpen m depth) a v 0 (m .row)) cells)
+          (position (suc row) (opened row from upto ∷ outer m depth)))) (drop at l)
           ≡ after (stateOf t f (withValue (withOpen m depth) a v 0 (m .row)) cells) (drop at l)
-      opened = rw (le-leb from upto h)
+      opening = rw (le-leb from upto h)
 
   module _ (e : fitsIn t f (m .numbers) a k ≡ true) (h : upto < from) {x : Found} (px : Leads x (outBy again (m .row) (tableFor t f) row)) where
     leaving : next (foundOut x (drop at l)) (λ q. give (to (goTo (stateOf t f (withValue (withOpen m depth) a v 0 (m .row)) cells) q))) ≡ entering
-    leaving = ap (λ (o : Out ℕ). next o (λ q. give (to (goTo (stateOf t f (withValue (withOpen m depth) a v 0 (m .row)) cells) q)))) (px .leads (drop at l)) ∙ shut ∙ setting e
+    leaving = ap (λ (o : Out ℕ). next o (λ q. give (to (goTo (stateOf t f (withValue (withOpen m depth) a v 0 (m .row)) cells) q))))
+        (px .leads (drop at l)) ∙ shut ∙ setting e
       where
-        shut : next (outBy again (m .row) (tableFor t f) row (drop at l)) (λ q. give (to (goTo (stateOf t f (withValue (withOpen m depth) a v 0 (m .row)) cells) q)))
+        shut : next (outBy again (m .row) (tableFor t f) row (drop at l))
+            (λ q. give (to (goTo (stateOf t f (withValue (withOpen m depth) a v 0 (m .row)) cells) q)))
             ≡ after (stateOf t f (withValue (withOpen m depth) a v 0 (m .row)) cells) (drop at l)
         shut = rw (lt-leb from upto h)
 
     pub enter-out : {q : ℕ} → x ≡ At q → moveOut t f (withValue (withOpen m depth) a v 0 q) cells l (Goes at) ≡ entering
     unfolding outcomeOut
-    enter-out ex = ap (λ (x : Found). next (foundOut x (drop at l)) (λ q. give (to (goTo (stateOf t f (withValue (withOpen m depth) a v 0 (m .row)) cells) q)))) (sym ex) ∙ leaving
+    enter-out ex = ap (λ (x : Found). next (foundOut x (drop at l))
+        (λ q. give (to (goTo (stateOf t f (withValue (withOpen m depth) a v 0 (m .row)) cells) q)))) (sym ex) ∙ leaving
 
     pub enter-lost : x ≡ Nothing → moveOut t f m cells l OStuck ≡ entering
     unfolding outcomeOut
-    enter-lost ex = ap (λ (x : Found). next (foundOut x (drop at l)) (λ q. give (to (goTo (stateOf t f (withValue (withOpen m depth) a v 0 (m .row)) cells) q)))) (sym ex) ∙ leaving
+    enter-lost ex = ap (λ (x : Found). next (foundOut x (drop at l))
+        (λ q. give (to (goTo (stateOf t f (withValue (withOpen m depth) a v 0 (m .row)) cells) q)))) (sym ex) ∙ leaving
 
   pub enter-off : fitsIn t f (m .numbers) a k ≡ false → moveOut t f m cells l OStuck ≡ entering
   unfolding outcomeOut
   enter-off e =
-      ap (λ (o : Out State). next o after) (sym (set-off t f (withOpen m depth) cells a iter (drop at l) (ap (fitsIn t f (m .numbers) a) (sort-iter ∙ sym ek) ∙ e) (λ q. ok .small a)))
+      ap (λ (o : Out State). next o after)
+          (sym (set-off t f (withOpen m depth) cells a iter (drop at l) (ap (fitsIn t f (m .numbers) a) (sort-iter ∙ sym ek) ∙ e) (λ q. ok .small a)))
       ∙ ap (λ (i : ℕ). next (setVar inside i iter (drop at l)) after) ea
 
 -- ---- the way out
@@ -281,7 +294,8 @@ module _ (ps : List ℕ) (t : Table) (s : State) (r x y : ℕ) (out : Work ℕ) 
       second v noChoice = refl
       second v stuck = refl
 
-      first : (o : Out ℕ) → next (next o (λ v ds. next (inClassOf ps y ds) (λ w. give (range v w)))) chosen ≡ next o (λ v. inClassOf ps y >>= λ w. enter t s r (Class (class ps v)) v w out)
+      first : (o : Out ℕ) → next (next o (λ v ds. next (inClassOf ps y ds) (λ w. give (range v w)))) chosen
+          ≡ next o (λ v. inClassOf ps y >>= λ w. enter t s r (Class (class ps v)) v w out)
       first (gives v ds) = second v (inClassOf ps y ds)
       first (fails ds) = refl
       first badChoice = refl
@@ -305,7 +319,8 @@ module _ (t : List ℕ) (f : Frame) (l : List ℕ) (m : Machine) (row x y depth 
     pub loop-ends : {u : Outcome} → OneOf (1 ∷ 2 ∷ 3 ∷ 4 ∷ []) (tagOf bounds z) → u ≡ endedBounds z → moveOut t f m cells l u ≡ looping c
     loop-ends h q = bounds-end (to (stateOf t f m cells)) l z (chosen (places f) (tableFor t f) around row x y way) pz h q ∙ all-chosen
 
-    pub loop-chosen : {v w nx : ℕ} {o : Out Move} → z ≡ Both v w nx → o ≡ enter (tableFor t f) around row (iterOf (places f) true v) v w way (drop nx l) → o ≡ looping c
+    pub loop-chosen : {v w nx : ℕ} {o : Out Move} → z ≡ Both v w nx → o ≡ enter (tableFor t f) around row (iterOf (places f) true v) v w way (drop nx l)
+        → o ≡ looping c
     loop-chosen e q = q ∙ bounds-on (to (stateOf t f m cells)) l z (chosen (places f) (tableFor t f) around row x y way) pz e ∙ all-chosen
 
   pub loop-plain : {c : Bool} {o : Out Move} → c ≡ false → o ≡ enter (tableFor t f) around row (iterOf (places f) false x) x y way (drop at l) → o ≡ looping c
@@ -316,7 +331,8 @@ module _ (c : Bool) (t : List ℕ) (f : Frame) (l : List ℕ) (m : Machine) (cel
   abbrev onBounds : Range → Work Move
   onBounds r = loopAt (places f) (tableFor t f) (stateOf t f m cells) n (loopRow c) (r .from) (r .upto) (pastEnd (tableFor t f) n)
 
-  pub by-open : next (boundsOf (lends t f m cells) (f .nodes) b d (drop at l)) onBounds ≡ rowRule (places f) (tableFor t f) (stateOf t f m cells) n (loopRow c) a b d (drop at l)
+  pub by-open : next (boundsOf (lends t f m cells) (f .nodes) b d (drop at l)) onBounds
+      ≡ rowRule (places f) (tableFor t f) (stateOf t f m cells) n (loopRow c) a b d (drop at l)
   unfolding twoOf rowRule operand
   by-open = go c
     where
@@ -330,7 +346,8 @@ module _ (c : Bool) (t : List ℕ) (f : Frame) (l : List ℕ) (m : Machine) (cel
       second c v noChoice = refl
       second c v stuck = refl
 
-      first : (c : Bool) (o : Out ℕ) → next (next o (λ v ds. next (operand (lends t f m cells) uint (f .nodes) d ds) (λ w. give (range v w)))) (λ r. on c (r .from) (r .upto))
+      first : (c : Bool) (o : Out ℕ)
+          → next (next o (λ v ds. next (operand (lends t f m cells) uint (f .nodes) d ds) (λ w. give (range v w)))) (λ r. on c (r .from) (r .upto))
           ≡ next o (λ v ds. next (operand (lends t f m cells) uint (f .nodes) d ds) (λ w. on c v w))
       first c (gives v ds) = second c v (operand (lends t f m cells) uint (f .nodes) d ds)
       first c (fails ds) = refl
@@ -338,15 +355,18 @@ module _ (c : Bool) (t : List ℕ) (f : Frame) (l : List ℕ) (m : Machine) (cel
       first c noChoice = refl
       first c stuck = refl
 
-      go : (c : Bool) → next (boundsOf (lends t f m cells) (f .nodes) b d (drop at l)) (λ r. on c (r .from) (r .upto)) ≡ rowRule (places f) (tableFor t f) (stateOf t f m cells) n (loopRow c) a b d (drop at l)
+      go : (c : Bool) → next (boundsOf (lends t f m cells) (f .nodes) b d (drop at l)) (λ r. on c (r .from) (r .upto))
+          ≡ rowRule (places f) (tableFor t f) (stateOf t f m cells) n (loopRow c) a b d (drop at l)
       go true = first true (operand (lends t f m cells) uint (f .nodes) b (drop at l))
       go false = first false (operand (lends t f m cells) uint (f .nodes) b (drop at l))
 
   module _ (z : Bounds) (pz : boundsOut l z ≡ boundsOf (lends t f m cells) (f .nodes) b d (drop at l)) where
-    pub open-ends : {u : Outcome} → OneOf (1 ∷ 2 ∷ 3 ∷ 4 ∷ []) (tagOf bounds z) → u ≡ endedBounds z → moveOut t f m cells l u ≡ rowRule (places f) (tableFor t f) (stateOf t f m cells) n (loopRow c) a b d (drop at l)
+    pub open-ends : {u : Outcome} → OneOf (1 ∷ 2 ∷ 3 ∷ 4 ∷ []) (tagOf bounds z) → u ≡ endedBounds z
+        → moveOut t f m cells l u ≡ rowRule (places f) (tableFor t f) (stateOf t f m cells) n (loopRow c) a b d (drop at l)
     open-ends h q = bounds-end (to (stateOf t f m cells)) l z onBounds pz h q ∙ by-open
 
-    pub open-on : {x y nx : ℕ} {o : Out Move} → z ≡ Both x y nx → o ≡ onBounds (range x y) (drop nx l) → o ≡ rowRule (places f) (tableFor t f) (stateOf t f m cells) n (loopRow c) a b d (drop at l)
+    pub open-on : {x y nx : ℕ} {o : Out Move} → z ≡ Both x y nx → o ≡ onBounds (range x y) (drop nx l)
+        → o ≡ rowRule (places f) (tableFor t f) (stateOf t f m cells) n (loopRow c) a b d (drop at l)
     open-on e q = q ∙ bounds-on (to (stateOf t f m cells)) l z onBounds pz e ∙ by-open
 
 -- ---- 39
@@ -372,7 +392,8 @@ not-loop : (k : ℕ) → k ≢ 38 → k ≢ 42 → isLoop (rowKind k) ≡ false
 unfolding rowKind isLoop
 not-loop k h38 h42 = elim (decLe 43 k) [
   | yes h ↦ ap isLoop (List·getD-eq-default rowKinds noRow {n = k} h)
-  | no h ↦ go (isLoop (rowKind k)) (rw (ne-eqb k 38 h38, ne-eqb k 42 h42) at (all-at 43 (λ k. not (isLoop (rowKind k)) || (eqb k 38 || eqb k 42)) loop-kinds k (omega numbers)))
+  | no h ↦ go (isLoop (rowKind k))
+      (rw (ne-eqb k 38 h38, ne-eqb k 42 h42) at (all-at 43 (λ k. not (isLoop (rowKind k)) || (eqb k 38 || eqb k 42)) loop-kinds k (omega numbers)))
 ]
   where
     go : (b : Bool) → (not b || false) ≡ true → b ≡ false
@@ -414,10 +435,12 @@ module _ (t : List ℕ) (f : Frame) (l : List ℕ) (m : Machine) (cells : List �
     row = getD (m .«loop_rows») d 0
 
     abbrev onStart : ℕ → Work Move
-    onStart x = loopAt (places f) (tableFor t f) (withLoops (stateOf t f m cells) (outer m d)) row (rowKind (rowAt (tableFor t f) row .kind)) x (getD (m .ends) d 0) (give (suc (m .row)))
+    onStart x = loopAt (places f) (tableFor t f) (withLoops (stateOf t f m cells) (outer m d)) row (rowKind (rowAt (tableFor t f) row .kind)) x
+        (getD (m .ends) d 0) (give (suc (m .row)))
 
     by-split : next (add (getD (m .starts) d 0) 1 (drop at l)) onStart ≡ repeated
-    by-split = sym (ap (λ (ls : List Loop). repeatLoop (places f) (tableFor t f) (stateOf t f m cells) ls (drop at l)) (loops-split d (m .«loop_rows») (m .starts) (m .ends))) ∙ ap repeating (sym ed) ∙ by-repeat
+    by-split = sym (ap (λ (ls : List Loop). repeatLoop (places f) (tableFor t f) (stateOf t f m cells) ls (drop at l))
+        (loops-split d (m .«loop_rows») (m .starts) (m .ends))) ∙ ap repeating (sym ed) ∙ by-repeat
 
     module _ {x : Answer} (px : Says uint at x (arith false (getD (m .starts) d 0) 1)) where
       added : outOf uint l x ≡ add (getD (m .starts) d 0) 1 (drop at l)
@@ -433,14 +456,17 @@ module _ (t : List ℕ) (f : Frame) (l : List ℕ) (m : Machine) (cells : List �
         starts = ap (λ (o : Out ℕ). next o onStart) (sym (ap (outOf uint l) ex) ∙ added) ∙ by-split
 
         pub repeat-loop : (class : Bool) {k : ℕ} {o : Out Move} → k ≡ rowAt (tableFor t f) row .kind → rowKind k ≡ loopRow class
-            → o ≡ loopAt (places f) (tableFor t f) (withLoops (stateOf t f m cells) (outer m d)) row (loopRow class) v (getD (m .ends) d 0) (give (suc (m .row))) (drop nx l) → o ≡ repeated
+            → o ≡ loopAt (places f) (tableFor t f) (withLoops (stateOf t f m cells) (outer m d)) row (loopRow class) v (getD (m .ends) d 0)
+                (give (suc (m .row))) (drop nx l) → o ≡ repeated
         repeat-loop class {k} ek e q =
-            q ∙ ap (λ (u : Row). loopAt (places f) (tableFor t f) (withLoops (stateOf t f m cells) (outer m d)) row u v (getD (m .ends) d 0) (give (suc (m .row))) (drop nx l)) (sym e ∙ ap rowKind ek) ∙ starts
+            q ∙ ap (λ (u : Row). loopAt (places f) (tableFor t f) (withLoops (stateOf t f m cells) (outer m d)) row u v (getD (m .ends) d 0)
+                (give (suc (m .row))) (drop nx l)) (sym e ∙ ap rowKind ek) ∙ starts
 
         pub repeat-other : {k : ℕ} → k ≡ rowAt (tableFor t f) row .kind → k ≢ 38 → k ≢ 42 → moveOut t f m cells l OStuck ≡ repeated
         unfolding outcomeOut
         repeat-other {k} ek h38 h42 =
-            sym (loop-none (places f) (tableFor t f) (withLoops (stateOf t f m cells) (outer m d)) row v (getD (m .ends) d 0) (give (suc (m .row))) (drop nx l) (rowKind (rowAt (tableFor t f) row .kind)) (ap (λ (k : ℕ). isLoop (rowKind k)) (sym ek) ∙ not-loop k h38 h42))
+            sym (loop-none (places f) (tableFor t f) (withLoops (stateOf t f m cells) (outer m d)) row v (getD (m .ends) d 0) (give (suc (m .row)))
+                (drop nx l) (rowKind (rowAt (tableFor t f) row .kind)) (ap (λ (k : ℕ). isLoop (rowKind k)) (sym ek) ∙ not-loop k h38 h42))
             ∙ starts
 
 pub kind-38 : {k : ℕ} → k ≡ 38 → rowKind k ≡ loopRow false
@@ -452,7 +478,8 @@ unfolding rowKind
 kind-42 e = rw e
 
 -- a row of a kind above 0 is one of the table's
-pub row-there : (t : List ℕ) (f : Frame) (r : ℕ) {k : ℕ} → f .rows ≤ 256 → length t ≡ 4 * (f .decls + f .nodes + f .rows) → k ≡ rowAt (tableFor t f) r .kind → 0 < k → r < 256
+pub row-there : (t : List ℕ) (f : Frame) (r : ℕ) {k : ℕ} → f .rows ≤ 256 → length t ≡ 4 * (f .decls + f .nodes + f .rows)
+    → k ≡ rowAt (tableFor t f) r .kind → 0 < k → r < 256
 row-there t f r few long e h = elim (decLe (length t) (4 * (f .decls + f .nodes + r))) [
   | yes past ↦ let z : rowAt (tableFor t f) r .kind ≡ 0 = List·getD-eq-default t 0 {n = 4 * (f .decls + f .nodes + r)} past in absurd (omega (numbers, z, e, h))
   | no before ↦ omega numbers

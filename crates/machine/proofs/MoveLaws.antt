@@ -14,6 +14,7 @@ use lib.Dec.{ltb, leb, eqb}
 use borrow.Author.Tests.{ltb-true, ltb-false, leb-false, lt-ltb, le-ltb, eqb-true, eq-eqb}
 use types.Run.{OneOf, miss}
 use denote.Enum.Declared.{tagOf}
+use Rattle.machine.specs.CodeAnswers.{outOf, Lent, lent, operand}
 use Rattle.lists.specs.If.{if_then_else_}
 use Rattle.lists.specs.Tab.{tab}
 use Rattle.lists.proofs.TabLaws.{length-tab, at-tab}
@@ -22,7 +23,7 @@ use Rattle.model.specs.Table.Ty.{bool, uint, pointer}
 use Rattle.model.specs.Table.Row.{skip, assign}
 use Rattle.model.specs.Work.{Out, Work, next, give}
 use Rattle.model.specs.Work.Out.{gives, stuck}
-use Rattle.model.specs.State.{Value, State, sortOf, classed}
+use Rattle.model.specs.State.{Value, State, formOf, classed}
 use Rattle.model.specs.State.Value.{Truth, Uint, Class, Pointer}
 use Rattle.model.specs.Eval.{Of, value}
 use Rattle.model.specs.Step.{End, Move, past, setVar, rowRule}
@@ -36,11 +37,12 @@ use Rattle.machine.specs.declared.answers.Answer.the-variants.{Bool as A
 use Rattle.machine.specs.declared.variables.Sort.{Sort}
 use Rattle.machine.specs.declared.variables.Sort.the-variants.{Bool as SBool, Uint as SUint, Class as SClass, Pointer as SPointer}
 use Rattle.machine.specs.declared.rows.Outcome.{Outcome}
-use Rattle.machine.specs.declared.rows.Outcome.the-variants.{Goes, AssertFalse, AssumeFalse, WantOfCells, Fails as OFails, BadChoice as OBad, NoChoice as ONone, Stuck as OStuck}
+use Rattle.machine.specs.declared.rows.Outcome.the-variants.{Goes, AssertFalse, AssumeFalse, WantOfCells, Fails as OFails, BadChoice as OBad}
+use Rattle.machine.specs.declared.rows.Outcome.the-variants.{NoChoice as ONone, Stuck as OStuck}
 use Rattle.machine.specs.declared.rows.Stepped.{Stepped}
-use Rattle.machine.specs.View.{kindOf, places, tableFor, sortFor, sortIn, bySort, varsOf, stateOf, outOf, Lent, lent, operand}
-use Rattle.machine.specs.Rows.{outcomeOut, moveOut, Still}
-use Rattle.machine.specs.Moves.{endedOf, testRow, falseEnd, heldSort, fitsIn, stepped, withValue, putIn}
+use Rattle.machine.specs.View.{kindOf, places, tableFor, sortFor, sortIn, bySort, varsOf, stateOf}
+use Rattle.machine.specs.CodeRows.{outcomeOut, moveOut, Still}
+use Rattle.machine.specs.CodeMoves.{endedOf, testRow, falseEnd, heldSort, fitsIn, stepped, withValue, putIn}
 use Rattle.machine.proofs.ViewLaws.{var-in, var-out}
 
 -- ---- answers that gave no value
@@ -97,13 +99,16 @@ module _ (on : Move) (l : List ℕ) where
   no-value w Stuck k h = refl
 
   -- x is what the row's operand gave, o what it gives by definition
-  pub ends-bool : (x : Answer) {o : Out Bool} {z : Outcome} (k : Bool → Work Move) → outOf bool l x ≡ o → OneOf (1 ∷ 2 ∷ 3 ∷ 4 ∷ 5 ∷ 6 ∷ []) (tagOf answer x) → z ≡ endedOf x → outcomeOut on l z ≡ next o k
+  pub ends-bool : (x : Answer) {o : Out Bool} {z : Outcome} (k : Bool → Work Move) → outOf bool l x ≡ o
+      → OneOf (1 ∷ 2 ∷ 3 ∷ 4 ∷ 5 ∷ 6 ∷ []) (tagOf answer x) → z ≡ endedOf x → outcomeOut on l z ≡ next o k
   ends-bool x k p h q = ap (outcomeOut on l) q ∙ no-bool x k h ∙ ap (λ (o : Out Bool). next o k) p
 
-  pub ends-uint : (x : Answer) {o : Out ℕ} {z : Outcome} (k : ℕ → Work Move) → outOf uint l x ≡ o → OneOf (0 ∷ 2 ∷ 3 ∷ 4 ∷ 5 ∷ 6 ∷ []) (tagOf answer x) → z ≡ endedOf x → outcomeOut on l z ≡ next o k
+  pub ends-uint : (x : Answer) {o : Out ℕ} {z : Outcome} (k : ℕ → Work Move) → outOf uint l x ≡ o → OneOf (0 ∷ 2 ∷ 3 ∷ 4 ∷ 5 ∷ 6 ∷ []) (tagOf answer x)
+      → z ≡ endedOf x → outcomeOut on l z ≡ next o k
   ends-uint x k p h q = ap (outcomeOut on l) q ∙ no-uint x k h ∙ ap (λ (o : Out ℕ). next o k) p
 
-  pub ends-value : (w : Ty) (x : Answer) {o : Out (Of w)} {z : Outcome} (k : Of w → Work Move) → outOf w l x ≡ o → OneOf (3 ∷ 4 ∷ 5 ∷ 6 ∷ []) (tagOf answer x) → z ≡ endedOf x → outcomeOut on l z ≡ next o k
+  pub ends-value : (w : Ty) (x : Answer) {o : Out (Of w)} {z : Outcome} (k : Of w → Work Move) → outOf w l x ≡ o
+      → OneOf (3 ∷ 4 ∷ 5 ∷ 6 ∷ []) (tagOf answer x) → z ≡ endedOf x → outcomeOut on l z ≡ next o k
   ends-value w x k p h q = ap (outcomeOut on l) q ∙ no-value w x k h ∙ ap (λ (o : Out (Of w)). next o k) p
 
 -- what a row's operands are worked out from
@@ -121,23 +126,28 @@ falseStop : Bool → End
 falseStop true = assumeFalse
 falseStop false = assertFalse
 
-module _ (assuming : Bool) (t : List ℕ) (f : Frame) (l : List ℕ) (m : Machine) (cells : List ℕ) (n a b c at : ℕ) (x : Answer) (px : outOf bool l x ≡ operand (lends t f m cells) bool (f .nodes) a (drop at l)) where
+module _ (assuming : Bool) (t : List ℕ) (f : Frame) (l : List ℕ) (m : Machine) (cells : List ℕ) (n a b c at : ℕ) (x : Answer)
+    (px : outOf bool l x ≡ operand (lends t f m cells) bool (f .nodes) a (drop at l)) where
   abbrev onTest : Bool → Work Move
   onTest y = give (if y then to (past (stateOf t f m cells)) else stop (falseStop assuming))
 
-  by-test : next (operand (lends t f m cells) bool (f .nodes) a (drop at l)) onTest ≡ rowRule (places f) (tableFor t f) (stateOf t f m cells) n (testRow assuming) a b c (drop at l)
+  by-test : next (operand (lends t f m cells) bool (f .nodes) a (drop at l)) onTest
+      ≡ rowRule (places f) (tableFor t f) (stateOf t f m cells) n (testRow assuming) a b c (drop at l)
   unfolding rowRule operand falseStop
   by-test = go assuming
     where
-      go : (d : Bool) → next (operand (lends t f m cells) bool (f .nodes) a (drop at l)) (λ y. give (if y then to (past (stateOf t f m cells)) else stop (falseStop d)))
+      go : (d : Bool) → next (operand (lends t f m cells) bool (f .nodes) a (drop at l))
+          (λ y. give (if y then to (past (stateOf t f m cells)) else stop (falseStop d)))
           ≡ rowRule (places f) (tableFor t f) (stateOf t f m cells) n (testRow d) a b c (drop at l)
       go true = refl
       go false = refl
 
-  pub test-ends : {z : Outcome} → OneOf (1 ∷ 2 ∷ 3 ∷ 4 ∷ 5 ∷ 6 ∷ []) (tagOf answer x) → z ≡ endedOf x → moveOut t f m cells l z ≡ rowRule (places f) (tableFor t f) (stateOf t f m cells) n (testRow assuming) a b c (drop at l)
+  pub test-ends : {z : Outcome} → OneOf (1 ∷ 2 ∷ 3 ∷ 4 ∷ 5 ∷ 6 ∷ []) (tagOf answer x) → z ≡ endedOf x
+      → moveOut t f m cells l z ≡ rowRule (places f) (tableFor t f) (stateOf t f m cells) n (testRow assuming) a b c (drop at l)
   test-ends h q = ends-bool (to (stateOf t f m cells)) l x onTest px h q ∙ by-test
 
-  tested : {y : Bool} {nx : ℕ} → x ≡ ABool y nx → onTest y (drop nx l) ≡ rowRule (places f) (tableFor t f) (stateOf t f m cells) n (testRow assuming) a b c (drop at l)
+  tested : {y : Bool} {nx : ℕ} → x ≡ ABool y nx
+      → onTest y (drop nx l) ≡ rowRule (places f) (tableFor t f) (stateOf t f m cells) n (testRow assuming) a b c (drop at l)
   unfolding outOf
   tested e = ap (λ (o : Out Bool). next o onTest) (sym (ap (outOf bool l) e) ∙ px) ∙ by-test
 
@@ -156,10 +166,10 @@ module _ (assuming : Bool) (t : List ℕ) (f : Frame) (l : List ℕ) (m : Machin
       go false = refl
 
 -- ---- a variable that gets a value
-sort-held : (s : Sort) (x y : ℕ) (v : Value) → heldSort s x ≡ sortOf v → sortOf (bySort s x y) ≡ sortOf v
+sort-held : (s : Sort) (x y : ℕ) (v : Value) → heldSort s x ≡ formOf v → formOf (bySort s x y) ≡ formOf v
 sort-held SBool x y v h = go (leb x 1) v h
   where
-    go : (b : Bool) (v : Value) → (if b then 1 else 0) ≡ sortOf v → sortOf (if b then Truth (eqb x 1) else Uint x) ≡ sortOf v
+    go : (b : Bool) (v : Value) → (if b then 1 else 0) ≡ formOf v → formOf (if b then Truth (eqb x 1) else Uint x) ≡ formOf v
     go true v h = h
     go false (Truth d) h = absurd (omega arith)
     go false (Uint k) h = absurd (omega arith)
@@ -169,10 +179,12 @@ sort-held SUint x y v h = h
 sort-held SClass x y v h = h
 sort-held SPointer x y v h = h
 
-sort-off : (s : Sort) (x y : ℕ) (v : Value) → eqb (heldSort s x) (sortOf v) ≡ false → (sortOf v ≡ 2 → s ≡ SBool → x ≤ 1) → eqb (sortOf v) (sortOf (bySort s x y)) ≡ false
+sort-off : (s : Sort) (x y : ℕ) (v : Value) → eqb (heldSort s x) (formOf v) ≡ false → (formOf v ≡ 2 → s ≡ SBool → x ≤ 1)
+    → eqb (formOf v) (formOf (bySort s x y)) ≡ false
 sort-off SBool x y v h small = go (leb x 1) refl v h small
   where
-    go : (b : Bool) → leb x 1 ≡ b → (v : Value) → eqb (if b then 1 else 0) (sortOf v) ≡ false → (sortOf v ≡ 2 → SBool ≡ SBool → x ≤ 1) → eqb (sortOf v) (sortOf (if b then Truth (eqb x 1) else Uint x)) ≡ false
+    go : (b : Bool) → leb x 1 ≡ b → (v : Value) → eqb (if b then 1 else 0) (formOf v) ≡ false → (formOf v ≡ 2 → SBool ≡ SBool → x ≤ 1)
+        → eqb (formOf v) (formOf (if b then Truth (eqb x 1) else Uint x)) ≡ false
     go true e (Truth d) h small = absurd (true≢false h)
     go true e (Uint k) h small = refl
     go true e (Class k) h small = refl
@@ -214,8 +226,12 @@ module _ (t : List ℕ) (f : Frame) (ns bs : List ℕ) (a x y : ℕ) where
 
       at : (i : ℕ) → i < length (tab (f .decls) new) → getD (tab (f .decls) new) i (Uint 0) ≡ getD (set (tab (f .decls) old) a there) i (Uint 0)
       at i l = elim (ℕ-discrete i a) [
-        | yes e ↦ at-tab (f .decls) new (Uint 0) i (rw (length-tab (f .decls) new) at l) ∙ rw (e, getD-set-same ns a x 0 hn, getD-set-same bs a y 0 hb) (sym (getD-set-same (tab (f .decls) old) a there (Uint 0) (rw (length-tab (f .decls) old) h)))
-        | no e ↦ at-tab (f .decls) new (Uint 0) i (rw (length-tab (f .decls) new) at l) ∙ rw (getD-set-other ns a i x 0 e, getD-set-other bs a i y 0 e) (sym (getD-set-other (tab (f .decls) old) a i there (Uint 0) e ∙ at-tab (f .decls) old (Uint 0) i (rw (length-tab (f .decls) new) at l)))
+        | yes e ↦ at-tab (f .decls) new (Uint 0) i (rw (length-tab (f .decls) new) at l)
+            ∙ rw (e, getD-set-same ns a x 0 hn, getD-set-same bs a y 0 hb)
+            (sym (getD-set-same (tab (f .decls) old) a there (Uint 0) (rw (length-tab (f .decls) old) h)))
+        | no e ↦ at-tab (f .decls) new (Uint 0) i (rw (length-tab (f .decls) new) at l)
+            ∙ rw (getD-set-other ns a i x 0 e, getD-set-other bs a i y 0 e)
+            (sym (getD-set-other (tab (f .decls) old) a i there (Uint 0) e ∙ at-tab (f .decls) old (Uint 0) i (rw (length-tab (f .decls) new) at l)))
       ]
 
 -- what a variable that takes a value of the sort k is
@@ -224,7 +240,8 @@ module _ (t : List ℕ) (f : Frame) (ns : List ℕ) (a k : ℕ) where
   unfolding fitsIn
   fits-both e = go (ltb a (f .decls)) refl (eqb (heldSort (sortIn t f a) (getD ns a 0)) k) refl e
     where
-      go : (b : Bool) → ltb a (f .decls) ≡ b → (d : Bool) → eqb (heldSort (sortIn t f a) (getD ns a 0)) k ≡ d → (b && d) ≡ true → (a < f .decls) × (heldSort (sortIn t f a) (getD ns a 0) ≡ k)
+      go : (b : Bool) → ltb a (f .decls) ≡ b → (d : Bool) → eqb (heldSort (sortIn t f a) (getD ns a 0)) k ≡ d → (b && d) ≡ true
+          → (a < f .decls) × (heldSort (sortIn t f a) (getD ns a 0) ≡ k)
       go true u true v e = (ltb-true a (f .decls) u, eqb-true (heldSort (sortIn t f a) (getD ns a 0)) k v)
       go true u false v e = absurd (false≢true e)
       go false u d v e = absurd (false≢true e)
@@ -241,20 +258,24 @@ module _ (t : List ℕ) (f : Frame) (ns : List ℕ) (a k : ℕ) where
   fits-there h e q = rw (lt-ltb a (f .decls) h, q, e)
 
 module _ (t : List ℕ) (f : Frame) (m : Machine) (cells : List ℕ) (a : ℕ) (v : Value) (cs : List ℕ) where
-  pub set-to : (x base : ℕ) → fitsIn t f (m .numbers) a (sortOf v) ≡ true → a < length (m .numbers) → a < length (m .bases) → bySort (sortIn t f a) x base ≡ v
+  pub set-to : (x base : ℕ) → fitsIn t f (m .numbers) a (formOf v) ≡ true → a < length (m .numbers) → a < length (m .bases) → bySort (sortIn t f a) x base ≡ v
       → setVar (stateOf t f m cells) a v cs ≡ gives (stateOf t f (withValue m a x base (m .row)) cells) cs
   set-to x base e hn hb q =
-      let b = fits-both t f (m .numbers) a (sortOf v) e in
-      let held : sortOf (bySort (sortIn t f a) (getD (m .numbers) a 0) (getD (m .bases) a 0)) ≡ sortOf v = sort-held (sortIn t f a) (getD (m .numbers) a 0) (getD (m .bases) a 0) v (b .1) in
-      rw (var-in t f (m .numbers) (m .bases) a (b .0) cs, held, eq-eqb (sortOf v) (sortOf v) refl, vars-set t f (m .numbers) (m .bases) a x base (b .0) hn hb, q)
+      let b = fits-both t f (m .numbers) a (formOf v) e in
+      let held : formOf (bySort (sortIn t f a) (getD (m .numbers) a 0) (getD (m .bases) a 0))
+          ≡ formOf v = sort-held (sortIn t f a) (getD (m .numbers) a 0) (getD (m .bases) a 0) v (b .1) in
+      rw (var-in t f (m .numbers) (m .bases) a (b .0) cs, held, eq-eqb (formOf v) (formOf v) refl, vars-set t f (m .numbers) (m .bases) a x base
+          (b .0) hn hb, q)
 
-  pub set-off : fitsIn t f (m .numbers) a (sortOf v) ≡ false → (sortOf v ≡ 2 → a < f .decls → sortIn t f a ≡ SBool → getD (m .numbers) a 0 ≤ 1)
+  pub set-off : fitsIn t f (m .numbers) a (formOf v) ≡ false → (formOf v ≡ 2 → a < f .decls → sortIn t f a ≡ SBool → getD (m .numbers) a 0 ≤ 1)
       → setVar (stateOf t f m cells) a v cs ≡ stuck
   unfolding fitsIn
   set-off e small = go (ltb a (f .decls)) refl e
     where
-      go : (b : Bool) → ltb a (f .decls) ≡ b → (b && eqb (heldSort (sortIn t f a) (getD (m .numbers) a 0)) (sortOf v)) ≡ false → setVar (stateOf t f m cells) a v cs ≡ stuck
-      go true u e = rw (var-in t f (m .numbers) (m .bases) a (ltb-true a (f .decls) u) cs, sort-off (sortIn t f a) (getD (m .numbers) a 0) (getD (m .bases) a 0) v e (λ q. small q (ltb-true a (f .decls) u)))
+      go : (b : Bool) → ltb a (f .decls) ≡ b → (b && eqb (heldSort (sortIn t f a) (getD (m .numbers) a 0)) (formOf v)) ≡ false
+          → setVar (stateOf t f m cells) a v cs ≡ stuck
+      go true u e = rw (var-in t f (m .numbers) (m .bases) a (ltb-true a (f .decls) u) cs, sort-off (sortIn t f a) (getD (m .numbers) a 0)
+          (getD (m .bases) a 0) v e (λ q. small q (ltb-true a (f .decls) u)))
       go false u e = rw (var-out t f (m .numbers) (m .bases) a (ltb-false a (f .decls) u) cs)
 
 -- ---- what a declaration of a type holds
@@ -273,7 +294,8 @@ Agrees SPointer pointer = Unit {0}
 module _ (t : List ℕ) (f : Frame) (a : ℕ) where
   declared : (s : Sort) (w : Ty) → sortIn t f a ≡ s → typeAt (tableFor t f) a ≡ w → Agrees s w
   unfolding sortIn
-  declared s w es ew = subst (λ (s : Sort). Agrees s w) (ap (λ (u : Ty). if classed (kindOf f) (tableFor t f) a then SClass else sortFor u) (sym ew) ∙ es) (go (classed (kindOf f) (tableFor t f) a) w)
+  declared s w es ew = subst (λ (s : Sort). Agrees s w) (ap (λ (u : Ty). if classed (kindOf f) (tableFor t f) a then SClass else sortFor u) (sym ew) ∙ es)
+      (go (classed (kindOf f) (tableFor t f) a) w)
     where
       go : (b : Bool) (w : Ty) → Agrees (if b then SClass else sortFor w) w
       go true w = tt
@@ -314,17 +336,20 @@ held-class SPointer x e = absurd (omega arith)
 settled : State → ℕ → Value → Work Move
 settled s a v cs = next (setVar s a v cs) (λ s′. give (to (past s′)))
 
-module _ (t : List ℕ) (f : Frame) (l : List ℕ) (m : Machine) (cells : List ℕ) (a : ℕ) (long : length (m .numbers) ≡ 32) (wide : length (m .bases) ≡ 32) (few : f .decls ≤ 32) where
+module _ (t : List ℕ) (f : Frame) (l : List ℕ) (m : Machine) (cells : List ℕ) (a : ℕ) (long : length (m .numbers) ≡ 32) (wide : length (m .bases) ≡ 32)
+    (few : f .decls ≤ 32) where
   module _ (k x base at : ℕ) where
     abbrev result : Bool → Stepped
     result b = if b then stepped (withValue m a x base (m .row + 1)) (Goes at) else stepped m OStuck
 
-    put-moves : (v : Value) → sortOf v ≡ k → (fitsIn t f (m .numbers) a k ≡ true → bySort (sortIn t f a) x base ≡ v) → (k ≡ 2 → a < f .decls → sortIn t f a ≡ SBool → getD (m .numbers) a 0 ≤ 1)
+    put-moves : (v : Value) → formOf v ≡ k → (fitsIn t f (m .numbers) a k ≡ true → bySort (sortIn t f a) x base ≡ v)
+        → (k ≡ 2 → a < f .decls → sortIn t f a ≡ SBool → getD (m .numbers) a 0 ≤ 1)
         → {z : Stepped} → z ≡ putIn t f m a k x base at → moveOut t f (z .machine) cells l (z .outcome) ≡ settled (stateOf t f m cells) a v (drop at l)
     unfolding putIn settled outcomeOut
     put-moves v ev is small {z} ez = ap (λ (z : Stepped). moveOut t f (z .machine) cells l (z .outcome)) ez ∙ go (fitsIn t f (m .numbers) a k) refl
       where
-        go : (b : Bool) → fitsIn t f (m .numbers) a k ≡ b → moveOut t f (result b .machine) cells l (result b .outcome) ≡ next (setVar (stateOf t f m cells) a v (drop at l)) (λ s′. give (to (past s′)))
+        go : (b : Bool) → fitsIn t f (m .numbers) a k ≡ b
+            → moveOut t f (result b .machine) cells l (result b .outcome) ≡ next (setVar (stateOf t f m cells) a v (drop at l)) (λ s′. give (to (past s′)))
         go true e =
             let below : a < f .decls = fits-both t f (m .numbers) a k e .0 in
             let hn : a < length (m .numbers) = omega arith in
@@ -351,7 +376,8 @@ module _ (t : List ℕ) (f : Frame) (l : List ℕ) (m : Machine) (cells : List �
   held-in : (k : ℕ) → fitsIn t f (m .numbers) a k ≡ true → heldSort (sortIn t f a) (getD (m .numbers) a 0) ≡ k
   held-in k e = fits-both t f (m .numbers) a k e .1
 
-  module _ (n b c at kind : ℕ) (ek : kind ≡ getD t (4 * a) 0) (x : Answer) (px : outOf (typeOf kind) l x ≡ operand (lends t f m cells) (typeOf kind) (f .nodes) b (drop at l)) where
+  module _ (n b c at kind : ℕ) (ek : kind ≡ getD t (4 * a) 0) (x : Answer)
+      (px : outOf (typeOf kind) l x ≡ operand (lends t f m cells) (typeOf kind) (f .nodes) b (drop at l)) where
     abbrev ty : Ty
     ty = typeAt (tableFor t f) a
 
@@ -398,7 +424,8 @@ module _ (t : List ℕ) (f : Frame) (l : List ℕ) (m : Machine) (cells : List �
         go uint e = unput 3 p r nx (λ q. declared t f a SPointer uint (is q) e) ez
         go pointer e = put-moves 3 p r nx (Pointer r p) refl (λ q. rw (is q)) (λ q d s. absurd (omega arith)) ez
 
-    pub assign-bool : {y : Bool} {nx k : ℕ} → x ≡ ABool y nx → k ≡ (if y then 1 else 0) → {z : Stepped} → z ≡ putIn t f m a 1 k 0 nx → moveOut t f (z .machine) cells l (z .outcome) ≡ ruled
+    pub assign-bool : {y : Bool} {nx k : ℕ} → x ≡ ABool y nx → k ≡ (if y then 1 else 0) → {z : Stepped} → z ≡ putIn t f m a 1 k 0 nx
+        → moveOut t f (z .machine) cells l (z .outcome) ≡ ruled
     unfolding outOf
     assign-bool {y} {nx} {k} ex ek {z} ez = go ty refl ∙ from-answer ex
       where

@@ -13,6 +13,7 @@ use lib.Dec.{ltb, leb, eqb}
 use borrow.Author.Tests.{ltb-true, ltb-false, leb-false, le-leb, lt-leb}
 use types.Run.{OneOf}
 use denote.Enum.Declared.{tagOf}
+use Rattle.machine.specs.CodeAnswers.{outOf, operand}
 use Rattle.lists.specs.If.{if_then_else_}
 use Rattle.lists.specs.Tab.{tab, sum}
 use Rattle.lists.proofs.TabLaws.{tab-snoc, same-tab, tab-none, sum-more}
@@ -21,8 +22,8 @@ use Rattle.model.specs.Work.{Out, Work, next, give}
 use Rattle.model.specs.Work.Out.{gives}
 use Rattle.model.specs.State.{Value, Array, State}
 use Rattle.model.specs.State.Value.{Pointer}
-use Rattle.model.specs.Eval.{sizeOf, used}
-use Rattle.model.specs.Step.{Move, cleared, made, laidNext, addArray, newArray, rowRule}
+use Rattle.model.specs.Eval.{sizeOf, cellsLaid}
+use Rattle.model.specs.Step.{Move, cleared, made, laidNext, addArray, newArray, past, rowRule, withMemory}
 use Rattle.model.specs.Step.End.{wantOfCells}
 use Rattle.model.specs.Step.Move.{to, stop}
 use Rattle.machine.proofs.answers.Answer.{the-type as answer}
@@ -32,24 +33,24 @@ use Rattle.machine.specs.declared.answers.Answer.{Answer}
 use Rattle.machine.specs.declared.answers.Answer.the-variants.{Uint as AUint}
 use Rattle.machine.specs.declared.rows.Outcome.{Outcome}
 use Rattle.machine.specs.declared.rows.Outcome.the-variants.{Goes, WantOfCells, Stuck as OStuck}
-use Rattle.machine.specs.View.{places, tableFor, sortIn, bySort, arrayIn, arraysOf, stateOf, outOf, operand}
-use Rattle.machine.specs.Rows.{outcomeOut, moveOut}
-use Rattle.machine.specs.Moves.{endedOf, fitsIn, withValue}
-use Rattle.machine.specs.News.{arrayRow, sizeFor, sizeAt, usedIn, lacksRoom}
+use Rattle.machine.specs.View.{places, tableFor, sortIn, bySort, arrayIn, arraysOf, stateOf}
+use Rattle.machine.specs.CodeRows.{outcomeOut, moveOut}
+use Rattle.machine.specs.CodeMoves.{endedOf, fitsIn, withValue}
+use Rattle.machine.specs.CodeNews.{arrayRow, sizeFor, sizeAt, usedIn, lacksRoom}
 use Rattle.machine.proofs.ViewLaws.{count-arrays}
 use Rattle.machine.proofs.MoveLaws.{lends, fits-both, set-to, set-off, held-pointer, ends-uint}
 
 -- ---- the cells in use
-used-snoc : (ps : List ℕ) (rs : List Array) (r : Array) → used ps (rs ++ (r ∷ [])) ≡ used ps rs + sizeOf ps r
-unfolding used
+used-snoc : (ps : List ℕ) (rs : List Array) (r : Array) → cellsLaid ps (rs ++ (r ∷ [])) ≡ cellsLaid ps rs + sizeOf ps r
+unfolding cellsLaid
 used-snoc ps [] r = omega arith
 used-snoc ps (q ∷ rs) r = let e = used-snoc ps rs r in omega (arith, e)
 
-pub used-is : (ps : List ℕ) (n : ℕ) (fs ls hs : List ℕ) → used ps (arraysOf n fs ls hs) ≡ usedIn ps n ls hs
-unfolding used usedIn arraysOf sum
-used-is ps zero fs ls hs = ap (used ps) (sym (tab-none (arrayIn fs ls hs) []))
+pub used-is : (ps : List ℕ) (n : ℕ) (fs ls hs : List ℕ) → cellsLaid ps (arraysOf n fs ls hs) ≡ usedIn ps n ls hs
+unfolding cellsLaid usedIn arraysOf sum
+used-is ps zero fs ls hs = ap (cellsLaid ps) (sym (tab-none (arrayIn fs ls hs) []))
 used-is ps (suc n) fs ls hs =
-    ap (used ps) (tab-snoc n (arrayIn fs ls hs)) ∙ used-snoc ps (tab n (arrayIn fs ls hs)) (arrayIn fs ls hs n)
+    ap (cellsLaid ps) (tab-snoc n (arrayIn fs ls hs)) ∙ used-snoc ps (tab n (arrayIn fs ls hs)) (arrayIn fs ls hs n)
     ∙ ap (λ (u : ℕ). u + sizeAt ps ls hs n) (used-is ps n fs ls hs)
 
 pub used-none : (ps ls hs : List ℕ) → 0 ≡ usedIn ps 0 ls hs
@@ -66,7 +67,8 @@ arrays-push : (n u len h : ℕ) (fs ls hs : List ℕ) → n < length fs → n < 
 unfolding arraysOf
 arrays-push n u len h fs ls hs hf hl hh =
     tab-snoc n (arrayIn (set fs n u) (set ls n len) (set hs n h))
-    ∙ ap (λ (rs : List Array). rs ++ (arrayIn (set fs n u) (set ls n len) (set hs n h) n ∷ [])) (same-tab n (arrayIn (set fs n u) (set ls n len) (set hs n h)) (arrayIn fs ls hs) below)
+    ∙ ap (λ (rs : List Array). rs ++ (arrayIn (set fs n u) (set ls n len) (set hs n h) n ∷ []))
+        (same-tab n (arrayIn (set fs n u) (set ls n len) (set hs n h)) (arrayIn fs ls hs) below)
     ∙ ap (λ (r : Array). tab n (arrayIn fs ls hs) ++ (r ∷ [])) last
   where
     below : (i : ℕ) → i < n → arrayIn (set fs n u) (set ls n len) (set hs n h) i ≡ arrayIn fs ls hs i
@@ -130,7 +132,8 @@ module _ (t : List ℕ) (f : Frame) (m : Machine) (cells : List ℕ) (a len : �
 
   module _ (e : fitsIn t f (m .numbers) a 3 ≡ true) where
     pointed : bySort (sortIn t f a) 0 (m .count + 1) ≡ start
-    pointed = rw (held-pointer (sortIn t f a) (getD (m .numbers) a 0) (fits-both t f (m .numbers) a 3 e .1), count-arrays (m .count) (m .firsts) (m .lengths) (m .shapes), add-one (m .count))
+    pointed = rw (held-pointer (sortIn t f a) (getD (m .numbers) a 0) (fits-both t f (m .numbers) a 3 e .1), count-arrays (m .count) (m .firsts)
+        (m .lengths) (m .shapes), add-one (m .count))
 
     abbrev pointing : State
     pointing = stateOf t f (withValue m a 0 (m .count + 1) (m .row)) cells
@@ -143,7 +146,7 @@ module _ (t : List ℕ) (f : Frame) (m : Machine) (cells : List ℕ) (a len : �
         ap (λ (o : Out State). next o onArray) (sym (set-to t f m cells a start (drop at l) 0 (m .count + 1) e hn hb pointed))
 
     module _ {u size : ℕ} (eu : u ≡ usedIn (places f) (m .count) (m .lengths) (m .shapes)) (es : size ≡ sizeFor (places f) len reduced) where
-      is-used : used (places f) arrays ≡ u
+      is-used : cellsLaid (places f) arrays ≡ u
       is-used = used-is (places f) (m .count) (m .firsts) (m .lengths) (m .shapes) ∙ sym eu
 
       is-size : sizeOf (places f) (laidNext (places f) pointing len reduced) ≡ size
@@ -152,14 +155,16 @@ module _ (t : List ℕ) (f : Frame) (m : Machine) (cells : List ℕ) (a len : �
       fits-room : leb 16 (length arrays) ≡ leb 16 (m .count)
       fits-room = ap (leb 16) (count-arrays (m .count) (m .firsts) (m .lengths) (m .shapes))
 
-      fits-cells : leb (used (places f) arrays + sizeOf (places f) (laidNext (places f) pointing len reduced)) (length cells) ≡ leb (u + size) (length cells)
+      fits-cells : leb (cellsLaid (places f) arrays + sizeOf (places f) (laidNext (places f) pointing len reduced)) (length cells)
+          ≡ leb (u + size) (length cells)
       fits-cells = ap (λ (x : ℕ). leb (x + sizeFor (places f) len reduced) (length cells)) is-used ∙ ap (λ (x : ℕ). leb (u + x) (length cells)) (sym es)
 
       pub lay-want : lacksRoom (m .count) u size (length cells) ≡ true → moveOut t f m cells l (WantOfCells at) ≡ newing
       unfolding outcomeOut
       lay-want h = go (leb 16 (m .count)) refl (ltb (length cells) (u + size)) refl h ∙ setting
         where
-          go : (b : Bool) → leb 16 (m .count) ≡ b → (d : Bool) → ltb (length cells) (u + size) ≡ d → (b || d) ≡ true → gives (stop wantOfCells) (drop at l) ≡ onArray pointing (drop at l)
+          go : (b : Bool) → leb 16 (m .count) ≡ b → (d : Bool) → ltb (length cells) (u + size) ≡ d → (b || d) ≡ true
+              → gives (stop wantOfCells) (drop at l) ≡ onArray pointing (drop at l)
           go true p d q h = rw (fits-room, p)
           go false p true q h = rw (fits-room, p, fits-cells, lt-leb (u + size) (length cells) (ltb-true (length cells) (u + size) q))
           go false p false q h = absurd (false≢true h)
@@ -180,23 +185,28 @@ module _ (t : List ℕ) (f : Frame) (m : Machine) (cells : List ℕ) (a len : �
                 go true = refl
                 go false = refl
 
-            pushed : arraysOf (m .count + 1) (set (m .firsts) (m .count) u) (set (m .lengths) (m .count) len) (set (m .shapes) (m .count) k) ≡ arrays ++ (made u len reduced ∷ [])
+            pushed : arraysOf (m .count + 1) (set (m .firsts) (m .count) u) (set (m .lengths) (m .count) len) (set (m .shapes) (m .count) k)
+                ≡ arrays ++ (made u len reduced ∷ [])
             pushed =
                 ap (λ (n : ℕ). arraysOf n (set (m .firsts) (m .count) u) (set (m .lengths) (m .count) len) (set (m .shapes) (m .count) k)) (add-one (m .count))
                 ∙ arrays-push (m .count) u len k (m .firsts) (m .lengths) (m .shapes) hf hl hh
                 ∙ ap (λ (b : Bool). arrays ++ (made u len b ∷ [])) shape
 
-            opened : gives (to (record { row = suc (m .row); loops = pointing .loops; vars = pointing .vars; arrays = arrays ++ (made u len reduced ∷ []); cells = cleared u size cells })) (drop at l) ≡ onArray pointing (drop at l)
-            opened = rw (fits-room, lt-leb 16 (m .count) (room-arrays (m .count) u size (length cells) h), fits-cells, le-leb (u + size) (length cells) (room-cells (m .count) u size (length cells) h), is-used, ← es)
+            opened : gives (to (past (withMemory pointing (arrays ++ (made u len reduced ∷ [])) (cleared u size cells)))) (drop at l)
+                ≡ onArray pointing (drop at l)
+            opened = rw (fits-room, lt-leb 16 (m .count) (room-arrays (m .count) u size (length cells) h), fits-cells, le-leb (u + size) (length cells)
+                (room-cells (m .count) u size (length cells) h), is-used, ← es)
 
 -- ---- the part of the cells that was lent to be zeroed
-pub zero-part : (cs : List ℕ) (from n : ℕ) → from + n ≤ length cs → take from cs ++ (replicate (length (take n (drop from cs))) 0 ++ drop n (drop from cs)) ≡ cleared from n cs
+pub zero-part : (cs : List ℕ) (from n : ℕ) → from + n ≤ length cs
+    → take from cs ++ (replicate (length (take n (drop from cs))) 0 ++ drop n (drop from cs)) ≡ cleared from n cs
 zero-part cs from n h =
     let k : n ≤ length (drop from cs) = simp length-drop (omega arith) in
     rw (length-take-le, drop-drop n from cs)
 
 -- ---- 37 and 41
-module _ (reduced : Bool) (t : List ℕ) (f : Frame) (l : List ℕ) (m : Machine) (cells : List ℕ) (n a b c at : ℕ) (x : Answer) (px : outOf uint l x ≡ operand (lends t f m cells) uint (f .nodes) b (drop at l)) where
+module _ (reduced : Bool) (t : List ℕ) (f : Frame) (l : List ℕ) (m : Machine) (cells : List ℕ) (n a b c at : ℕ) (x : Answer)
+    (px : outOf uint l x ≡ operand (lends t f m cells) uint (f .nodes) b (drop at l)) where
   abbrev onLength : ℕ → Work Move
   onLength len = newArray (places f) (stateOf t f m cells) a len reduced
 

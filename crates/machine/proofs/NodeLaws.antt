@@ -10,10 +10,12 @@ use lib.Dec.{ltb, leb}
 use borrow.Author.Tests.{lt-ltb, le-ltb}
 use types.Run.{OneOf, miss}
 use denote.Enum.Declared.{tagOf}
+use Rattle.machine.specs.CodeAnswers.{outOf, Lent, varsIn, arraysIn, contentsIn, tableIn, operand, Holds}
 use Rattle.lists.specs.If.{if_then_else_}
 use Rattle.model.specs.Table.{Ty, nodeAt, Node, nodeKind}
 use Rattle.model.specs.Table.Ty.{bool, uint, pointer}
-use Rattle.model.specs.Table.Node.{variable, uintConstant, boolConstant, cell, plus, minus, less, atMost, equal, conditional, valid, classVariable, reducedCell, reducedValid, noNode}
+use Rattle.model.specs.Table.Node.{variable, uintConstant, boolConstant, cell, plus, minus, less, atMost, equal, conditional, valid, classVariable}
+use Rattle.model.specs.Table.Node.{reducedCell, reducedValid, noNode}
 use Rattle.model.specs.Work.{Out, Work, next, _>>=_, give, wrong}
 use Rattle.model.specs.Work.Out.{gives, fails, badChoice, noChoice, stuck}
 use Rattle.model.specs.Eval.{Of, Ptr, ptr, sumOrDifference, compare, ofType, bools, uints, variableOf, present, below, rule, eval}
@@ -23,10 +25,12 @@ use Rattle.machine.specs.declared.nodes.Node.{Node as Taken}
 use Rattle.machine.specs.declared.nodes.Node.the-variants.{Variable, Constant, Flag, Cell, Arith, Compare, If, Valid, InClass, Nothing}
 use Rattle.machine.specs.declared.answers.Answer.{Answer}
 use Rattle.machine.specs.declared.answers.Answer.the-variants.{Bool as ABool, Uint as AUint, Stuck}
-use Rattle.machine.specs.View.{places, outOf, Lent, varsIn, arraysIn, storeIn, tableIn, operand, Holds}
-use Rattle.machine.specs.Leaves.{heldFor, classIn, loadOf, readOf, arith, movedBy, validIn, testOf, decoded, nodeIn}
+use Rattle.machine.specs.View.{places}
+use Rattle.machine.specs.CodeLeaves.{heldFor, classIn, loadOf, readOf, arith, movedBy, validIn, testOf, decoded, nodeIn}
 use Rattle.machine.proofs.ViewLaws.{count-arrays}
-use Rattle.machine.proofs.AnswerLaws.{followed, branch, tested, right-id, anew-uint, lost-uint, branch-uint, branch-no-uint, branch-pointer, branch-no-pointer, branch-bool, branch-no-bool, then-uint, then-pointer, then-bool, else-uint, else-pointer, else-bool, says-arith, says-moved, says-valid, says-tested}
+use Rattle.machine.proofs.AnswerLaws.{followed, branch, tested, right-id, anew-uint, lost-uint, branch-uint, branch-no-uint, branch-pointer}
+use Rattle.machine.proofs.AnswerLaws.{branch-no-pointer, branch-bool, branch-no-bool, then-uint, then-pointer, then-bool, else-uint, else-pointer}
+use Rattle.machine.proofs.AnswerLaws.{else-bool, says-arith, says-moved, says-valid, says-tested}
 
 -- a value is present once, and then again
 module _ (N : ℕ) where
@@ -38,7 +42,8 @@ module _ (N : ℕ) where
   twice uint o = right-id (next o give)
   twice pointer (gives p cs) = go (leb (p .array) N) refl
     where
-      go : (b : Bool) → leb (p .array) N ≡ b → next ((if_then_else_ {A = Work Ptr} b (give p) wrong) cs) (present N pointer) ≡ (if_then_else_ {A = Work Ptr} b (give p) wrong) cs
+      go : (b : Bool) → leb (p .array) N ≡ b
+          → next ((if_then_else_ {A = Work Ptr} b (give p) wrong) cs) (present N pointer) ≡ (if_then_else_ {A = Work Ptr} b (give p) wrong) cs
       go true e = rw e
       go false e = refl
   twice pointer (fails cs) = refl
@@ -47,7 +52,8 @@ module _ (N : ℕ) where
   twice pointer stuck = refl
 
   moved-kept : (op : ℕ → ℕ → Work ℕ) (o : Out Ptr) (y : Work ℕ) → next o (present N pointer) ≡ o
-      → next (next o (λ p. y >>= λ b. op (p .place) b >>= λ z. give (ptr (p .array) z))) (present N pointer) ≡ next o (λ p. y >>= λ b. op (p .place) b >>= λ z. give (ptr (p .array) z))
+      → next (next o (λ p. y >>= λ b. op (p .place) b >>= λ z. give (ptr (p .array) z))) (present N pointer)
+          ≡ next o (λ p. y >>= λ b. op (p .place) b >>= λ z. give (ptr (p .array) z))
   moved-kept op (gives p cs) y h = go (leb (p .array) N) refl (rest (y cs))
     where
       third : leb (p .array) N ≡ true → (o : Out ℕ) → next (next o (λ z. give (ptr (p .array) z))) (present N pointer) ≡ next o (λ z. give (ptr (p .array) z))
@@ -58,7 +64,8 @@ module _ (N : ℕ) where
       third e stuck = refl
 
       rest : (o : Out ℕ) → leb (p .array) N ≡ true
-          → next (next o (λ b. op (p .place) b >>= λ z. give (ptr (p .array) z))) (present N pointer) ≡ next o (λ b. op (p .place) b >>= λ z. give (ptr (p .array) z))
+          → next (next o (λ b. op (p .place) b >>= λ z. give (ptr (p .array) z))) (present N pointer)
+              ≡ next o (λ b. op (p .place) b >>= λ z. give (ptr (p .array) z))
       rest (gives b ds) e = third e (op (p .place) b ds)
       rest (fails ds) e = refl
       rest badChoice e = refl
@@ -87,7 +94,8 @@ ruleOf e w (InClass a) ev = uints w (classIn (places (e .frame)) (varsIn e) a)
 ruleOf e w Nothing ev = wrong
 
 module _ (e : Lent) where
-  rule-decoded : (w : Ty) (k : Node) (a b c : ℕ) (ev : (v : Ty) → ℕ → Work (Of v)) → rule (places (e .frame)) (storeIn e) w k a b c ev ≡ ruleOf e w (decoded k a a b c) ev
+  rule-decoded : (w : Ty) (k : Node) (a b c : ℕ) (ev : (v : Ty) → ℕ → Work (Of v))
+      → rule (places (e .frame)) (contentsIn e) w k a b c ev ≡ ruleOf e w (decoded k a a b c) ev
   unfolding rule arith loadOf readOf validIn classIn
   rule-decoded w variable a b c ev = refl
   rule-decoded w uintConstant a b c ev = refl
@@ -110,14 +118,21 @@ module _ (e : Lent) where
   unfolding operand
   operand-kept w n a cs = go (ltb a n)
     where
-      known : next (eval (places (e .frame)) (storeIn e) (tableIn e) w a cs) (present (length (arraysIn e)) w) ≡ eval (places (e .frame)) (storeIn e) (tableIn e) w a cs
-      known = subst (λ (m : Work (Of w)). next (m cs) (present (length (arraysIn e)) w) ≡ m cs) (sym (eval-is (places (e .frame)) (storeIn e) (tableIn e) w a)) (twice (length (arraysIn e)) w (rule (places (e .frame)) (storeIn e) w (nodeKind (nodeAt (tableIn e) a .kind)) (nodeAt (tableIn e) a .a) (nodeAt (tableIn e) a .b) (nodeAt (tableIn e) a .c) (below a (eval (places (e .frame)) (storeIn e) (tableIn e))) cs))
+      known : next (eval (places (e .frame)) (contentsIn e) (tableIn e) w a cs) (present (length (arraysIn e)) w)
+          ≡ eval (places (e .frame)) (contentsIn e) (tableIn e) w a cs
+      known = subst (λ (m : Work (Of w)). next (m cs) (present (length (arraysIn e)) w) ≡ m cs)
+          (sym (eval-is (places (e .frame)) (contentsIn e) (tableIn e) w a))
+          (twice (length (arraysIn e)) w
+          (rule (places (e .frame)) (contentsIn e) w (nodeKind (nodeAt (tableIn e) a .kind)) (nodeAt (tableIn e) a .a) (nodeAt (tableIn e) a .b)
+          (nodeAt (tableIn e) a .c) (below a (eval (places (e .frame)) (contentsIn e) (tableIn e))) cs))
 
-      go : (b : Bool) → next ((if_then_else_ {A = Work (Of w)} b (eval (places (e .frame)) (storeIn e) (tableIn e) w a) wrong) cs) (present (length (arraysIn e)) w) ≡ (if_then_else_ {A = Work (Of w)} b (eval (places (e .frame)) (storeIn e) (tableIn e) w a) wrong) cs
+      go : (b : Bool) → next ((if_then_else_ {A = Work (Of w)} b (eval (places (e .frame)) (contentsIn e) (tableIn e) w a) wrong) cs)
+          (present (length (arraysIn e)) w) ≡ (if_then_else_ {A = Work (Of w)} b (eval (places (e .frame)) (contentsIn e) (tableIn e) w a) wrong) cs
       go true = known
       go false = refl
 
-  if-kept : (w : Ty) (n b c : ℕ) (o : Out Bool) → next (next o (λ x. if x then operand e w n b else operand e w n c)) (present (length (arraysIn e)) w) ≡ followed w o (branch e w n b c)
+  if-kept : (w : Ty) (n b c : ℕ) (o : Out Bool)
+      → next (next o (λ x. if x then operand e w n b else operand e w n c)) (present (length (arraysIn e)) w) ≡ followed w o (branch e w n b c)
   unfolding followed branch
   if-kept w n b c (gives true cs) = operand-kept w n b cs
   if-kept w n b c (gives false cs) = operand-kept w n c cs
@@ -133,11 +148,13 @@ module _ (e : Lent) where
     unrolled : (w : Ty) → next (ruleOf e w (nodeIn (e .table) (e .frame) n) ops cs) (present (length (arraysIn e)) w) ≡ operand e w user n cs
     unfolding operand nodeIn
     unrolled w =
-        ap (λ (m : Work (Of w)). next (m cs) (present (length (arraysIn e)) w)) (sym (rule-decoded w (nodeKind (nodeAt (tableIn e) n .kind)) (nodeAt (tableIn e) n .a) (nodeAt (tableIn e) n .b) (nodeAt (tableIn e) n .c) ops))
-        ∙ ap (λ (m : Work (Of w)). m cs) (sym (eval-is (places (e .frame)) (storeIn e) (tableIn e) w n))
-        ∙ sym (ap (λ (b : Bool). (if_then_else_ {A = Work (Of w)} b (eval (places (e .frame)) (storeIn e) (tableIn e) w n) wrong) cs) (lt-ltb n user h))
+        ap (λ (m : Work (Of w)). next (m cs) (present (length (arraysIn e)) w))
+            (sym (rule-decoded w (nodeKind (nodeAt (tableIn e) n .kind)) (nodeAt (tableIn e) n .a) (nodeAt (tableIn e) n .b) (nodeAt (tableIn e) n .c) ops))
+        ∙ ap (λ (m : Work (Of w)). m cs) (sym (eval-is (places (e .frame)) (contentsIn e) (tableIn e) w n))
+        ∙ sym (ap (λ (b : Bool). (if_then_else_ {A = Work (Of w)} b (eval (places (e .frame)) (contentsIn e) (tableIn e) w n) wrong) cs) (lt-ltb n user h))
 
-    at-node : (w : Ty) {r x : Taken} → r ≡ nodeIn (e .table) (e .frame) n → r ≡ x → next (ruleOf e w x ops cs) (present (length (arraysIn e)) w) ≡ operand e w user n cs
+    at-node : (w : Ty) {r x : Taken} → r ≡ nodeIn (e .table) (e .frame) n → r ≡ x
+        → next (ruleOf e w x ops cs) (present (length (arraysIn e)) w) ≡ operand e w user n cs
     at-node w read p = ap (λ (y : Taken). next (ruleOf e w y ops cs) (present (length (arraysIn e)) w)) (sym p ∙ read) ∙ unrolled w
 
     at-uint : {r x : Taken} → r ≡ nodeIn (e .table) (e .frame) n → r ≡ x → ruleOf e uint x ops cs ≡ operand e uint user n cs
@@ -149,10 +166,12 @@ module _ (e : Lent) where
 -- a node that is no operand of its user
 pub not-below : (e : Lent) (w : Ty) (l : List ℕ) (n user : ℕ) (cs : List ℕ) → user ≤ n → outOf w l Stuck ≡ operand e w user n cs
 unfolding operand outOf
-not-below e w l n user cs h = sym (ap (λ (b : Bool). (if_then_else_ {A = Work (Of w)} b (eval (places (e .frame)) (storeIn e) (tableIn e) w n) wrong) cs) (le-ltb n user h))
+not-below e w l n user cs h = sym
+    (ap (λ (b : Bool). (if_then_else_ {A = Work (Of w)} b (eval (places (e .frame)) (contentsIn e) (tableIn e) w n) wrong) cs) (le-ltb n user h))
 
 -- nodes that give no value of a type
-pointer-stuck : (e : Lent) (f : (v : Ty) → ℕ → Work (Of v)) (cs : List ℕ) (x : Taken) → OneOf (1 ∷ 2 ∷ 3 ∷ 5 ∷ 7 ∷ 8 ∷ 9 ∷ []) (tagOf node x) → ruleOf e pointer x f cs ≡ stuck
+pointer-stuck : (e : Lent) (f : (v : Ty) → ℕ → Work (Of v)) (cs : List ℕ) (x : Taken) → OneOf (1 ∷ 2 ∷ 3 ∷ 5 ∷ 7 ∷ 8 ∷ 9 ∷ []) (tagOf node x)
+    → ruleOf e pointer x f cs ≡ stuck
 pointer-stuck e f cs (Variable a) h = absurd (miss (1 ∷ 2 ∷ 3 ∷ 5 ∷ 7 ∷ 8 ∷ 9 ∷ []) 0 tt h)
 pointer-stuck e f cs (Constant k) h = refl
 pointer-stuck e f cs (Flag b) h = refl
@@ -176,7 +195,8 @@ uint-stuck e f cs (Valid a) h = refl
 uint-stuck e f cs (InClass a) h = absurd (miss (2 ∷ 5 ∷ 7 ∷ 9 ∷ []) 8 tt h)
 uint-stuck e f cs Nothing h = refl
 
-bool-stuck : (e : Lent) (f : (v : Ty) → ℕ → Work (Of v)) (cs : List ℕ) (x : Taken) → OneOf (1 ∷ 3 ∷ 4 ∷ 8 ∷ 9 ∷ []) (tagOf node x) → ruleOf e bool x f cs ≡ stuck
+bool-stuck : (e : Lent) (f : (v : Ty) → ℕ → Work (Of v)) (cs : List ℕ) (x : Taken) → OneOf (1 ∷ 3 ∷ 4 ∷ 8 ∷ 9 ∷ []) (tagOf node x)
+    → ruleOf e bool x f cs ≡ stuck
 bool-stuck e f cs (Variable a) h = absurd (miss (1 ∷ 3 ∷ 4 ∷ 8 ∷ 9 ∷ []) 0 tt h)
 bool-stuck e f cs (Constant k) h = refl
 bool-stuck e f cs (Flag b) h = absurd (miss (1 ∷ 3 ∷ 4 ∷ 8 ∷ 9 ∷ []) 2 tt h)
@@ -191,71 +211,87 @@ bool-stuck e f cs Nothing h = refl
 -- a node's answer z, by the node r that was read at its number
 module _ (e : Lent) (l : List ℕ) (n user : ℕ) {r : Taken} where
   -- a variable's node is what the variable holds
-  pub variable-is : (w : Ty) (cs : List ℕ) {a : ℕ} → n < user → r ≡ nodeIn (e .table) (e .frame) n → r ≡ Variable a → heldFor (varsIn e) (e .count) a w cs ≡ operand e w user n cs
+  pub variable-is : (w : Ty) (cs : List ℕ) {a : ℕ} → n < user → r ≡ nodeIn (e .table) (e .frame) n → r ≡ Variable a
+      → heldFor (varsIn e) (e .count) a w cs ≡ operand e w user n cs
   unfolding heldFor
   variable-is w cs {a = a} h read p =
       ap (λ (k : ℕ). next ((variableOf (varsIn e) a >>= ofType w) cs) (present k w)) (sym (count-arrays (e .count) (e .firsts) (e .lengths) (e .shapes)))
       ∙ at-node e n user h cs w read p
 
-  pub any-variable : (w : Ty) (at : ℕ) {z : Answer} {a : ℕ} → n < user → r ≡ nodeIn (e .table) (e .frame) n → r ≡ Variable a → Holds at z (heldFor (varsIn e) (e .count) a) → outOf w l z ≡ operand e w user n (drop at l)
+  pub any-variable : (w : Ty) (at : ℕ) {z : Answer} {a : ℕ} → n < user → r ≡ nodeIn (e .table) (e .frame) n → r ≡ Variable a
+      → Holds at z (heldFor (varsIn e) (e .count) a) → outOf w l z ≡ operand e w user n (drop at l)
   any-variable w at h read p s = s .held w l ∙ variable-is w (drop at l) h read p
 
   module _ (z : Answer) (cs : List ℕ) where
-    pub any-if : {a b c : ℕ} (w : Ty) → n < user → r ≡ nodeIn (e .table) (e .frame) n → r ≡ If a b c → outOf w l z ≡ followed w (operand e bool n a cs) (branch e w n b c) → outOf w l z ≡ operand e w user n cs
+    pub any-if : {a b c : ℕ} (w : Ty) → n < user → r ≡ nodeIn (e .table) (e .frame) n → r ≡ If a b c
+        → outOf w l z ≡ followed w (operand e bool n a cs) (branch e w n b c) → outOf w l z ≡ operand e w user n cs
     any-if {a = a} {b = b} {c = c} w h read p q = q ∙ sym (if-kept e w n b c (operand e bool n a cs)) ∙ at-node e n user h cs w read p
 
     pub pointer-arith : {m : Bool} {a b : ℕ} → n < user → r ≡ nodeIn (e .table) (e .frame) n → r ≡ Arith m a b
-        → outOf pointer l z ≡ followed pointer (operand e pointer n a cs) (λ p ds. followed pointer (operand e uint n b ds) (movedBy m (p .array) (p .place))) → outOf pointer l z ≡ operand e pointer user n cs
+        → outOf pointer l z ≡ followed pointer (operand e pointer n a cs)
+            (λ p ds. followed pointer (operand e uint n b ds) (movedBy m (p .array) (p .place))) → outOf pointer l z ≡ operand e pointer user n cs
     unfolding followed movedBy
     pointer-arith {m = m} {a = a} {b = b} h read p q =
-        q ∙ sym (moved-kept (length (arraysIn e)) (arith m) (operand e pointer n a cs) (operand e uint n b) (operand-kept e pointer n a cs)) ∙ at-node e n user h cs pointer read p
+        q ∙ sym (moved-kept (length (arraysIn e)) (arith m) (operand e pointer n a cs) (operand e uint n b) (operand-kept e pointer n a cs))
+            ∙ at-node e n user h cs pointer read p
 
     pub uint-cell : {m : Bool} {a : ℕ} → n < user → r ≡ nodeIn (e .table) (e .frame) n → r ≡ Cell m a
-        → outOf uint l z ≡ followed uint (operand e pointer n a cs) (loadOf m (places (e .frame)) (arraysIn e) (e .cells)) → outOf uint l z ≡ operand e uint user n cs
+        → outOf uint l z ≡ followed uint (operand e pointer n a cs) (loadOf m (places (e .frame)) (arraysIn e) (e .cells))
+            → outOf uint l z ≡ operand e uint user n cs
     unfolding followed
     uint-cell h read p q = q ∙ at-uint e n user h cs read p
 
     pub uint-arith : {m : Bool} {a b : ℕ} → n < user → r ≡ nodeIn (e .table) (e .frame) n → r ≡ Arith m a b
-        → outOf uint l z ≡ followed uint (operand e uint n a cs) (λ x ds. followed uint (operand e uint n b ds) (arith m x)) → outOf uint l z ≡ operand e uint user n cs
+        → outOf uint l z ≡ followed uint (operand e uint n a cs) (λ x ds. followed uint (operand e uint n b ds) (arith m x))
+            → outOf uint l z ≡ operand e uint user n cs
     unfolding followed
     uint-arith h read p q = q ∙ at-uint e n user h cs read p
 
-    pub uint-choice : {a : ℕ} → n < user → r ≡ nodeIn (e .table) (e .frame) n → r ≡ InClass a → outOf uint l z ≡ classIn (places (e .frame)) (varsIn e) a cs → outOf uint l z ≡ operand e uint user n cs
+    pub uint-choice : {a : ℕ} → n < user → r ≡ nodeIn (e .table) (e .frame) n → r ≡ InClass a
+        → outOf uint l z ≡ classIn (places (e .frame)) (varsIn e) a cs → outOf uint l z ≡ operand e uint user n cs
     uint-choice h read p q = q ∙ at-uint e n user h cs read p
 
     pub bool-valid : {a : ℕ} → n < user → r ≡ nodeIn (e .table) (e .frame) n → r ≡ Valid a
-        → outOf bool l z ≡ followed bool (operand e pointer n a cs) (λ p. validIn (arraysIn e) (p .array) (p .place)) → outOf bool l z ≡ operand e bool user n cs
+        → outOf bool l z ≡ followed bool (operand e pointer n a cs) (λ p. validIn (arraysIn e) (p .array) (p .place))
+            → outOf bool l z ≡ operand e bool user n cs
     unfolding followed
     bool-valid h read p q = q ∙ at-bool e n user h cs read p
 
     pub bool-compare : {k a b : ℕ} → n < user → r ≡ nodeIn (e .table) (e .frame) n → r ≡ Compare k a b
-        → outOf bool l z ≡ followed bool (operand e uint n a cs) (λ x ds. followed bool (operand e uint n b ds) (tested k x)) → outOf bool l z ≡ operand e bool user n cs
+        → outOf bool l z ≡ followed bool (operand e uint n a cs) (λ x ds. followed bool (operand e uint n b ds) (tested k x))
+            → outOf bool l z ≡ operand e bool user n cs
     unfolding followed tested
     bool-compare h read p q = q ∙ at-bool e n user h cs read p
 
-  pub uint-constant : (at : ℕ) {k : ℕ} → n < user → r ≡ nodeIn (e .table) (e .frame) n → r ≡ Constant k → outOf uint l (AUint k at) ≡ operand e uint user n (drop at l)
+  pub uint-constant : (at : ℕ) {k : ℕ} → n < user → r ≡ nodeIn (e .table) (e .frame) n → r ≡ Constant k
+      → outOf uint l (AUint k at) ≡ operand e uint user n (drop at l)
   unfolding outOf
   uint-constant at h read p = at-uint e n user h (drop at l) read p
 
-  pub bool-constant : (at : ℕ) {b : Bool} → n < user → r ≡ nodeIn (e .table) (e .frame) n → r ≡ Flag b → outOf bool l (ABool b at) ≡ operand e bool user n (drop at l)
+  pub bool-constant : (at : ℕ) {b : Bool} → n < user → r ≡ nodeIn (e .table) (e .frame) n → r ≡ Flag b
+      → outOf bool l (ABool b at) ≡ operand e bool user n (drop at l)
   unfolding outOf
   bool-constant at h read p = at-bool e n user h (drop at l) read p
 
   module _ (cs : List ℕ) where
-    pub pointer-other : n < user → r ≡ nodeIn (e .table) (e .frame) n → OneOf (1 ∷ 2 ∷ 3 ∷ 5 ∷ 7 ∷ 8 ∷ 9 ∷ []) (tagOf node r) → outOf pointer l Stuck ≡ operand e pointer user n cs
+    pub pointer-other : n < user → r ≡ nodeIn (e .table) (e .frame) n → OneOf (1 ∷ 2 ∷ 3 ∷ 5 ∷ 7 ∷ 8 ∷ 9 ∷ []) (tagOf node r)
+        → outOf pointer l Stuck ≡ operand e pointer user n cs
     unfolding outOf
-    pointer-other h read k = ap (λ (o : Out Ptr). next o (present (length (arraysIn e)) pointer)) (sym (pointer-stuck e (λ v m. operand e v n m) cs r k)) ∙ at-node e n user h cs pointer read refl
+    pointer-other h read k = ap (λ (o : Out Ptr). next o (present (length (arraysIn e)) pointer)) (sym (pointer-stuck e (λ v m. operand e v n m) cs r k))
+        ∙ at-node e n user h cs pointer read refl
 
     pub uint-other : n < user → r ≡ nodeIn (e .table) (e .frame) n → OneOf (2 ∷ 5 ∷ 7 ∷ 9 ∷ []) (tagOf node r) → outOf uint l Stuck ≡ operand e uint user n cs
     unfolding outOf
     uint-other h read k = sym (uint-stuck e (λ v m. operand e v n m) cs r k) ∙ at-uint e n user h cs read refl
 
-    pub bool-other : n < user → r ≡ nodeIn (e .table) (e .frame) n → OneOf (1 ∷ 3 ∷ 4 ∷ 8 ∷ 9 ∷ []) (tagOf node r) → outOf bool l Stuck ≡ operand e bool user n cs
+    pub bool-other : n < user → r ≡ nodeIn (e .table) (e .frame) n → OneOf (1 ∷ 3 ∷ 4 ∷ 8 ∷ 9 ∷ []) (tagOf node r)
+        → outOf bool l Stuck ≡ operand e bool user n cs
     unfolding outOf
     bool-other h read k = sym (bool-stuck e (λ v m. operand e v n m) cs r k) ∙ at-bool e n user h cs read refl
 
 -- what proves each return of an evaluator
-pub ruleset answers = (not-below, then-uint, then-pointer, then-bool, else-uint, else-pointer, else-bool, branch-uint, branch-no-uint, branch-pointer, branch-no-pointer, branch-bool, branch-no-bool, says-arith, says-moved, says-valid, says-tested, any-variable, any-if, pointer-arith, pointer-other, uint-constant, uint-cell, uint-arith, uint-choice, uint-other, bool-constant, bool-compare, bool-valid, bool-other)
+pub ruleset answers =
+    (not-below, then-uint, then-pointer, then-bool, else-uint, else-pointer, else-bool, branch-uint, branch-no-uint, branch-pointer, branch-no-pointer, branch-bool, branch-no-bool, says-arith, says-moved, says-valid, says-tested, any-variable, any-if, pointer-arith, pointer-other, uint-constant, uint-cell, uint-arith, uint-choice, uint-other, bool-constant, bool-compare, bool-valid, bool-other)
 
 -- ... and of the evaluator that answers constants and variables at once
 pub ruleset handed = (not-below, anew-uint, lost-uint, any-variable, uint-constant)

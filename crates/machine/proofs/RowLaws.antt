@@ -8,6 +8,7 @@ use lib.ListN.{length, drop, set}
 use lib.Dec.{ltb, eqb}
 use types.Run.{OneOf, miss}
 use denote.Enum.Declared.{tagOf}
+use Rattle.machine.specs.CodeAnswers.{outOf, Lent, lent, operand, arraysIn}
 use Rattle.lists.specs.If.{if_then_else_}
 use Rattle.model.specs.Class.{class}
 use Rattle.model.specs.Table.{Row}
@@ -27,14 +28,16 @@ use Rattle.machine.specs.declared.frame.Frame.{Frame}
 use Rattle.machine.specs.declared.answers.Answer.{Answer}
 use Rattle.machine.specs.declared.answers.Answer.the-variants.{Bool as ABool, Uint as AUint, Pointer as APointer, Fails, BadChoice, NoChoice, Stuck}
 use Rattle.machine.specs.declared.rows.Outcome.{Outcome}
-use Rattle.machine.specs.declared.rows.Outcome.the-variants.{Goes, AssertFalse, AssumeFalse, WantOfCells, Fails as OFails, BadChoice as OBad, NoChoice as ONone, Stuck as OStuck}
+use Rattle.machine.specs.declared.rows.Outcome.the-variants.{Goes, AssertFalse, AssumeFalse, WantOfCells, Fails as OFails, BadChoice as OBad}
+use Rattle.machine.specs.declared.rows.Outcome.the-variants.{NoChoice as ONone, Stuck as OStuck}
 use Rattle.machine.specs.declared.writes.Operands.{Operands}
 use Rattle.machine.specs.declared.writes.Operands.the-variants.{Both, Fails as BFails, BadChoice as BBad, NoChoice as BNone, Stuck as BStuck}
 use Rattle.machine.specs.declared.writes.Spot.{Spot}
 use Rattle.machine.specs.declared.writes.Spot.the-variants.{Stuck as SStuck}
-use Rattle.machine.specs.View.{outOf, places, tableFor, stateOf, Lent, lent, operand, arraysOf, arraysIn}
-use Rattle.machine.specs.Rows.{outcomeOut, moveOut, Still, Unmoved, Unwritten, Write, writeTo, bothOf, bothOut, endedBoth, outcomeOf, Landing, spotOut, spotEnd, spotIn, spotAt, spotKept, placeOf, aimOf, aimReduced, aimBy, landed, Puts, writeBy, Writes}
-use Rattle.machine.specs.Rows.Landing.{onCell, nowhere}
+use Rattle.machine.specs.View.{places, tableFor, stateOf, arraysOf}
+use Rattle.machine.specs.CodeRows.{outcomeOut, moveOut, Still, Unmoved, Unwritten, Write, writeTo, bothOf, bothOut, endedBoth, outcomeOf, Landing}
+use Rattle.machine.specs.CodeRows.{spotOut, spotEnd, spotIn, spotAt, spotKept, placeOf, aimOf, aimReduced, aimBy, landed, Puts, writeBy, Writes}
+use Rattle.machine.specs.CodeRows.Landing.{onCell, nowhere}
 
 -- ---- answers that gave no value
 pub other-both : (x : Answer) → OneOf (0 ∷ 1 ∷ 2 ∷ 6 ∷ []) (tagOf answer x) → BStuck ≡ endedBoth x
@@ -55,7 +58,8 @@ other-spot BadChoice h = absurd (miss (0 ∷ 1 ∷ 2 ∷ 6 ∷ []) 4 tt h)
 other-spot NoChoice h = absurd (miss (0 ∷ 1 ∷ 2 ∷ 6 ∷ []) 5 tt h)
 other-spot Stuck h = refl
 
-no-pointer-both : (l : List ℕ) (x : Answer) (k : Ptr → Work Write) → OneOf (0 ∷ 1 ∷ 3 ∷ 4 ∷ 5 ∷ 6 ∷ []) (tagOf answer x) → bothOut l (endedBoth x) ≡ next (outOf pointer l x) k
+no-pointer-both : (l : List ℕ) (x : Answer) (k : Ptr → Work Write) → OneOf (0 ∷ 1 ∷ 3 ∷ 4 ∷ 5 ∷ 6 ∷ []) (tagOf answer x)
+    → bothOut l (endedBoth x) ≡ next (outOf pointer l x) k
 unfolding outOf bothOut
 no-pointer-both l (ABool b at) k h = refl
 no-pointer-both l (AUint v at) k h = refl
@@ -65,7 +69,8 @@ no-pointer-both l BadChoice k h = refl
 no-pointer-both l NoChoice k h = refl
 no-pointer-both l Stuck k h = refl
 
-no-uint-both : (l : List ℕ) (x : Answer) (k : ℕ → Work Write) → OneOf (0 ∷ 2 ∷ 3 ∷ 4 ∷ 5 ∷ 6 ∷ []) (tagOf answer x) → bothOut l (endedBoth x) ≡ next (outOf uint l x) k
+no-uint-both : (l : List ℕ) (x : Answer) (k : ℕ → Work Write) → OneOf (0 ∷ 2 ∷ 3 ∷ 4 ∷ 5 ∷ 6 ∷ []) (tagOf answer x)
+    → bothOut l (endedBoth x) ≡ next (outOf uint l x) k
 unfolding outOf bothOut
 no-uint-both l (ABool b at) k h = refl
 no-uint-both l (AUint v at) k h = absurd (miss (0 ∷ 2 ∷ 3 ∷ 4 ∷ 5 ∷ 6 ∷ []) 1 tt h)
@@ -75,7 +80,8 @@ no-uint-both l BadChoice k h = refl
 no-uint-both l NoChoice k h = refl
 no-uint-both l Stuck k h = refl
 
-no-uint-spot : (l : List ℕ) (x : Answer) (k : ℕ → Work Landing) → OneOf (0 ∷ 2 ∷ 3 ∷ 4 ∷ 5 ∷ 6 ∷ []) (tagOf answer x) → spotOut l (spotEnd x) ≡ next (outOf uint l x) k
+no-uint-spot : (l : List ℕ) (x : Answer) (k : ℕ → Work Landing) → OneOf (0 ∷ 2 ∷ 3 ∷ 4 ∷ 5 ∷ 6 ∷ []) (tagOf answer x)
+    → spotOut l (spotEnd x) ≡ next (outOf uint l x) k
 unfolding outOf spotOut
 no-uint-spot l (ABool b at) k h = refl
 no-uint-spot l (AUint v at) k h = absurd (miss (0 ∷ 2 ∷ 3 ∷ 4 ∷ 5 ∷ 6 ∷ []) 1 tt h)
@@ -98,12 +104,14 @@ module _ (l : List ℕ) (x : Answer) {o : Out ℕ} (k : ℕ → Work Landing) (p
 module _ (e : Lent) (l : List ℕ) (n a b at : ℕ) (x : Answer) (px : outOf pointer l x ≡ operand e pointer n a (drop at l)) where
   pub both-1 : {z : Operands} → OneOf (0 ∷ 1 ∷ 3 ∷ 4 ∷ 5 ∷ 6 ∷ []) (tagOf answer x) → z ≡ endedBoth x → bothOut l z ≡ bothOf e n a b (drop at l)
   unfolding bothOf
-  both-1 h q = ap (bothOut l) q ∙ no-pointer-both l x (λ p. operand e uint n b >>= λ y. give (writeTo p y)) h ∙ ap (λ (o : Out Ptr). next o (λ p. operand e uint n b >>= λ y. give (writeTo p y))) px
+  both-1 h q = ap (bothOut l) q ∙ no-pointer-both l x (λ p. operand e uint n b >>= λ y. give (writeTo p y)) h
+      ∙ ap (λ (o : Out Ptr). next o (λ p. operand e uint n b >>= λ y. give (writeTo p y))) px
 
   module _ {r p nx : ℕ} (ex : x ≡ APointer r p nx) (y : Answer) (py : outOf uint l y ≡ operand e uint n b (drop nx l)) where
     one : next (outOf uint l y) (λ v. give (writeTo (ptr r p) v)) ≡ bothOf e n a b (drop at l)
     unfolding bothOf outOf
-    one = ap (λ (o : Out ℕ). next o (λ v. give (writeTo (ptr r p) v))) py ∙ ap (λ (o : Out Ptr). next o (λ p. operand e uint n b >>= λ y. give (writeTo p y))) (sym (ap (outOf pointer l) ex) ∙ px)
+    one = ap (λ (o : Out ℕ). next o (λ v. give (writeTo (ptr r p) v))) py
+        ∙ ap (λ (o : Out Ptr). next o (λ p. operand e uint n b >>= λ y. give (writeTo p y))) (sym (ap (outOf pointer l) ex) ∙ px)
 
     pub both-2 : {z : Operands} → OneOf (0 ∷ 2 ∷ 3 ∷ 4 ∷ 5 ∷ 6 ∷ []) (tagOf answer y) → z ≡ endedBoth y → bothOut l z ≡ bothOf e n a b (drop at l)
     both-2 h q = ap (bothOut l) q ∙ no-uint-both l y (λ v. give (writeTo (ptr r p) v)) h ∙ one
@@ -134,11 +142,13 @@ module _ (t : List ℕ) (f : Frame) (m : Machine) (cells : List ℕ) where
         go true = refl
         go false = refl
 
-    at-is : (p : ℕ) (r : Array) (ds : List ℕ) → next (spotAt ps p r ds) (landed onward cells x) ≡ (if_then_else_ {A = Work Move} (ltb p (r .len)) (put ps state r p x) fail) ds
+    at-is : (p : ℕ) (r : Array) (ds : List ℕ)
+        → next (spotAt ps p r ds) (landed onward cells x) ≡ (if_then_else_ {A = Work Move} (ltb p (r .len)) (put ps state r p x) fail) ds
     unfolding spotAt
     at-is p r ds = go (ltb p (r .len))
       where
-        go : (b : Bool) → next ((if_then_else_ {A = Work Landing} b (spotIn (r .start) (sizeOf ps r) p) fail) ds) (landed onward cells x) ≡ (if_then_else_ {A = Work Move} b (put ps state r p x) fail) ds
+        go : (b : Bool) → next ((if_then_else_ {A = Work Landing} b (spotIn (r .start) (sizeOf ps r) p) fail) ds) (landed onward cells x)
+            ≡ (if_then_else_ {A = Work Move} b (put ps state r p x) fail) ds
         go true = in-is r p ds
         go false = refl
 
@@ -149,7 +159,8 @@ module _ (t : List ℕ) (f : Frame) (m : Machine) (cells : List ℕ) where
     unfolding spotKept
     kept-is r v ds = go (ltb v (r .len)) (keeps ps r v)
       where
-        go : (b d : Bool) → next ((if_then_else_ {A = Work Landing} b (if d then spotIn (r .start) (sizeOf ps r) (indexOf ps r v) else give nowhere) fail) ds) (landed onward cells x)
+        go : (b d : Bool) → next ((if_then_else_ {A = Work Landing} b
+            (if d then spotIn (r .start) (sizeOf ps r) (indexOf ps r v) else give nowhere) fail) ds) (landed onward cells x)
             ≡ (if_then_else_ {A = Work Move} b (if d then put ps state r (indexOf ps r v) x else give (to (past state))) fail) ds
         go true true = in-is r (indexOf ps r v) ds
         go true false = refl
@@ -159,7 +170,8 @@ module _ (t : List ℕ) (f : Frame) (m : Machine) (cells : List ℕ) where
     unfolding aimOf
     write-is p cs = go (arrayOf arrays (p .array) cs)
       where
-        go : (o : Out Array) → next (next o (spotAt ps (p .place))) (landed onward cells x) ≡ next o (λ r. if ltb (p .place) (r .len) then put ps state r (p .place) x else fail)
+        go : (o : Out Array) → next (next o (spotAt ps (p .place))) (landed onward cells x)
+            ≡ next o (λ r. if ltb (p .place) (r .len) then put ps state r (p .place) x else fail)
         go (gives r ds) = at-is (p .place) r ds
         go (fails ds) = refl
         go badChoice = refl
@@ -234,7 +246,8 @@ module _ (tracking : Bool) (e : Lent) (l : List ℕ) (n a b : ℕ) (cs : List �
   abbrev lands : (List ℕ → Move) → Write → Work Move
   lands on w = aimBy tracking (places (e .frame)) (arraysIn e) (w .place) >>= landed on (e .cells) (w .number)
 
-  no-both : (on : List ℕ → Move) (y : Operands) → OneOf (1 ∷ 2 ∷ 3 ∷ 4 ∷ []) (tagOf operands y) → outcomeOut (on (e .cells)) l (outcomeOf y) ≡ next (bothOut l y) (lands on)
+  no-both : (on : List ℕ → Move) (y : Operands) → OneOf (1 ∷ 2 ∷ 3 ∷ 4 ∷ []) (tagOf operands y)
+      → outcomeOut (on (e .cells)) l (outcomeOf y) ≡ next (bothOut l y) (lands on)
   unfolding outcomeOut bothOut
   no-both on (Both r p v nx) h = absurd (miss (1 ∷ 2 ∷ 3 ∷ 4 ∷ []) 0 tt h)
   no-both on (BFails nx) h = refl
@@ -247,7 +260,8 @@ module _ (tracking : Bool) (e : Lent) (l : List ℕ) (n a b : ℕ) (cs : List �
   writes-none h q = record { wrote = λ on. ap (outcomeOut (on (e .cells)) l) q ∙ no-both on x h ∙ ap (λ (o : Out Write). next o (lands on)) px }
 
   -- z is where it writes, o what came of it
-  pub writes-there : {r p v nx : ℕ} → x ≡ Both r p v nx → (z : Spot) → spotOut l z ≡ aimBy tracking (places (e .frame)) (arraysIn e) (ptr r p) (drop nx l) → {o : Outcome} {ds : List ℕ} → Puts z v o (e .cells) ds
+  pub writes-there : {r p v nx : ℕ} → x ≡ Both r p v nx → (z : Spot) → spotOut l z ≡ aimBy tracking (places (e .frame)) (arraysIn e) (ptr r p) (drop nx l)
+      → {o : Outcome} {ds : List ℕ} → Puts z v o (e .cells) ds
       → Writes tracking e n a b cs l o ds
   unfolding bothOut writeBy
   writes-there {v = v} ex z pz po = record {
@@ -265,16 +279,20 @@ module _ (tracking : Bool) (t : List ℕ) (f : Frame) (l : List ℕ) (m : Machin
   abbrev ruled : Out Move
   ruled = rowRule (places f) (tableFor t f) (stateOf t f m cells) n (writeRow tracking) a b c (drop at l)
 
-  by-aim : (d : Bool) (p : Ptr) (x : ℕ) (es : List ℕ) → next (aimBy d (places f) (arrays t f m cells) p es) (landed (onward t f m cells) cells x) ≡ ruleBy d (places f) (state t f m cells) p x es
+  by-aim : (d : Bool) (p : Ptr) (x : ℕ) (es : List ℕ)
+      → next (aimBy d (places f) (arrays t f m cells) p es) (landed (onward t f m cells) cells x) ≡ ruleBy d (places f) (state t f m cells) p x es
   unfolding aimBy
   by-aim true p x es = reduced-is t f m cells (places f) x p es
   by-aim false p x es = write-is t f m cells (places f) x p es
 
-  by-operands : (o : Out Ptr) → next (next o (λ p. operand lends uint (f .nodes) b >>= λ x. give (writeTo p x))) (λ w. aimBy tracking (places f) (arrays t f m cells) (w .place) >>= landed (onward t f m cells) cells (w .number))
+  by-operands : (o : Out Ptr)
+      → next (next o (λ p. operand lends uint (f .nodes) b >>= λ x. give (writeTo p x)))
+      (λ w. aimBy tracking (places f) (arrays t f m cells) (w .place) >>= landed (onward t f m cells) cells (w .number))
       ≡ next o (λ p. operand lends uint (f .nodes) b >>= λ x. ruleBy tracking (places f) (state t f m cells) p x)
   by-operands (gives p ds) = second (operand lends uint (f .nodes) b ds)
     where
-      second : (o : Out ℕ) → next (next o (λ x. give (writeTo p x))) (λ w. aimBy tracking (places f) (arrays t f m cells) (w .place) >>= landed (onward t f m cells) cells (w .number))
+      second : (o : Out ℕ) → next (next o (λ x. give (writeTo p x)))
+          (λ w. aimBy tracking (places f) (arrays t f m cells) (w .place) >>= landed (onward t f m cells) cells (w .number))
           ≡ next o (λ x. ruleBy tracking (places f) (state t f m cells) p x)
       second (gives x es) = by-aim tracking p x es
       second (fails es) = refl
@@ -286,7 +304,8 @@ module _ (tracking : Bool) (t : List ℕ) (f : Frame) (l : List ℕ) (m : Machin
   by-operands noChoice = refl
   by-operands stuck = refl
 
-  by-kind : (d : Bool) → next (operand lends pointer (f .nodes) a (drop at l)) (λ p. operand lends uint (f .nodes) b >>= λ x. ruleBy d (places f) (state t f m cells) p x)
+  by-kind : (d : Bool) → next (operand lends pointer (f .nodes) a (drop at l))
+      (λ p. operand lends uint (f .nodes) b >>= λ x. ruleBy d (places f) (state t f m cells) p x)
       ≡ rowRule (places f) (tableFor t f) (stateOf t f m cells) n (writeRow d) a b c (drop at l)
   unfolding rowRule operand
   by-kind true = refl
@@ -301,4 +320,5 @@ module _ (tracking : Bool) (t : List ℕ) (f : Frame) (l : List ℕ) (m : Machin
     row-stops on h = stays on (onward t f m cells ds) l o h ∙ w .wrote (onward t f m cells) ∙ by-rule
 
     pub row-goes : (m′ : Machine) {last : ℕ} → o ≡ Goes last → stateOf t f m′ ds ≡ past (stateOf t f m ds) → moveOut t f m′ ds l (Goes last) ≡ ruled
-    row-goes m′ {last} q s = ap (λ (u : State). outcomeOut (to u) l (Goes last)) s ∙ ap (outcomeOut (onward t f m cells ds) l) (sym q) ∙ w .wrote (onward t f m cells) ∙ by-rule
+    row-goes m′ {last} q s = ap (λ (u : State). outcomeOut (to u) l (Goes last)) s ∙ ap (outcomeOut (onward t f m cells ds) l) (sym q)
+        ∙ w .wrote (onward t f m cells) ∙ by-rule

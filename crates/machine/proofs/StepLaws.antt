@@ -16,10 +16,11 @@ use Rattle.model.specs.Step.{Move, rowRule, stepAt, step}
 use Rattle.machine.specs.declared.Machine.{Machine}
 use Rattle.machine.specs.declared.frame.Frame.{Frame}
 use Rattle.machine.specs.declared.rows.Outcome.{Outcome}
-use Rattle.machine.specs.declared.rows.Outcome.the-variants.{Goes, AssertFalse, AssumeFalse, WantOfCells, Fails as OFails, BadChoice as OBad, NoChoice as ONone, Stuck as OStuck}
+use Rattle.machine.specs.declared.rows.Outcome.the-variants.{Goes, AssertFalse, AssumeFalse, WantOfCells, Fails as OFails, BadChoice as OBad}
+use Rattle.machine.specs.declared.rows.Outcome.the-variants.{NoChoice as ONone, Stuck as OStuck}
 use Rattle.machine.specs.View.{places, tableFor, stateOf}
-use Rattle.machine.specs.Rows.{outcomeOut, moveOut, Still, Unmoved}
-use Rattle.machine.specs.Loops.{loopRow}
+use Rattle.machine.specs.CodeRows.{outcomeOut, moveOut, Still, Unmoved}
+use Rattle.machine.specs.CodeLoops.{loopRow}
 
 -- what left the cells alone
 pub unmoved : (o : Outcome) (m n : Machine) (cs : List ℕ) → Still o (m ≡ n) → Unmoved o m n cs cs
@@ -39,13 +40,16 @@ above n h e = omega arith
 small : (k : ℕ) → k < 32 → rowKind k ≡ noRow
 unfolding rowKind
 small k h =
-    List·getD-append (replicate 32 noRow) (skip ∷ assign ∷ store ∷ assert ∷ assume ∷ array ∷ loop ∷ loopEnd ∷ reducedStore ∷ reducedArray ∷ classLoop ∷ []) noRow k h
+    List·getD-append (replicate 32 noRow)
+        (skip ∷ assign ∷ store ∷ assert ∷ assume ∷ array ∷ loop ∷ loopEnd ∷ reducedStore ∷ reducedArray ∷ classLoop ∷ []) noRow k h
     ∙ getD-replicate 32 k noRow noRow h
 
 no-row : (k : ℕ) → k ≢ 32 → k ≢ 33 → k ≢ 34 → k ≢ 35 → k ≢ 36 → k ≢ 37 → k ≢ 38 → k ≢ 39 → k ≢ 40 → k ≢ 41 → k ≢ 42 → rowKind k ≡ noRow
 unfolding rowKind
 no-row k h32 h33 h34 h35 h36 h37 h38 h39 h40 h41 h42 = elim (decLe 32 k) [
-  | yes h ↦ List·getD-eq-default rowKinds noRow {n = k} (above 42 (above 41 (above 40 (above 39 (above 38 (above 37 (above 36 (above 35 (above 34 (above 33 (above 32 h h32) h33) h34) h35) h36) h37) h38) h39) h40) h41) h42)
+  | yes h ↦ List·getD-eq-default rowKinds noRow {n = k}
+      (above 42 (above 41 (above 40 (above 39 (above 38 (above 37
+      (above 36 (above 35 (above 34 (above 33 (above 32 h h32) h33) h34) h35) h36) h37) h38) h39) h40) h41) h42)
   | no h ↦ small k (below-32 h)
 ]
   where
@@ -98,7 +102,8 @@ row-42 e = rw e
 
 -- k, a, b and c are the words of the row
 module _ (t : List ℕ) (f : Frame) (m : Machine) (cells l : List ℕ) (at : ℕ) {k a b c : ℕ}
-    (ek : k ≡ getD t (4 * (f .decls + f .nodes + m .row) + 0) 0) (ea : a ≡ rowAt (tableFor t f) (m .row) .a) (eb : b ≡ rowAt (tableFor t f) (m .row) .b) (ec : c ≡ rowAt (tableFor t f) (m .row) .c) where
+    (ek : k ≡ getD t (4 * (f .decls + f .nodes + m .row) + 0) 0) (ea : a ≡ rowAt (tableFor t f) (m .row) .a) (eb : b ≡ rowAt (tableFor t f) (m .row) .b)
+        (ec : c ≡ rowAt (tableFor t f) (m .row) .c) where
   kind-is : k ≡ rowAt (tableFor t f) (m .row) .kind
   kind-is = let e : 4 * (f .decls + f .nodes + m .row) + 0 ≡ 4 * (f .decls + f .nodes + m .row) = omega arith in ek ∙ ap (λ (i : ℕ). getD t i 0) e
 

@@ -15,13 +15,15 @@ use lib.Dec.{ltb, leb, eqb}
 use borrow.Author.Tests.{lt-ltb, le-ltb, le-leb, lt-leb, ne-eqb}
 use types.Run.{OneOf, miss}
 use denote.Enum.Declared.{tagOf}
+use Rattle.machine.specs.CodeAnswers.{leftOf, outOf, Says, Holds}
 use Rattle.lists.specs.If.{if_then_else_}
 use Rattle.lists.proofs.TabLaws.{length-tab, at-tab}
 use Rattle.table.specs.Checks.{machineOf}
 use Rattle.model.specs.Class.{class}
 use Rattle.model.specs.Table.{Ty, nodeKind, nodeKinds, typeOf, marked, markedUint}
 use Rattle.model.specs.Table.Ty.{bool, uint, pointer}
-use Rattle.model.specs.Table.Node.{variable, uintConstant, boolConstant, cell, plus, minus, less, atMost, equal, conditional, valid, classVariable, reducedCell, reducedValid, noNode}
+use Rattle.model.specs.Table.Node.{variable, uintConstant, boolConstant, cell, plus, minus, less, atMost, equal, conditional, valid, classVariable}
+use Rattle.model.specs.Table.Node.{reducedCell, reducedValid, noNode}
 use Rattle.model.specs.Work.{next, give, choose}
 use Rattle.model.specs.Work.Out.{gives, stuck}
 use Rattle.model.specs.State.{Array, classed}
@@ -36,8 +38,8 @@ use Rattle.machine.specs.declared.answers.Answer.the-variants.{Bool as A
 use Rattle.machine.specs.declared.variables.Sort.{Sort}
 use Rattle.machine.specs.declared.variables.Sort.the-variants.{Bool as SBool, Uint as SUint, Class as SClass, Pointer as SPointer}
 use Rattle.machine.specs.declared.arrays.Target.the-variants.{Array as To, Missing, Unknown}
-use Rattle.machine.specs.View.{tableFor, sortFor, sortIn, boolOr, bySort, varsOf, arrayIn, arraysOf, leftOf, outOf, Says, Holds}
-use Rattle.machine.specs.Leaves.{heldFor, classIn, targetOut, Points, storedIn, readOf, validIn}
+use Rattle.machine.specs.View.{tableFor, sortFor, sortIn, boolOr, bySort, varsOf, arrayIn, arraysOf}
+use Rattle.machine.specs.CodeLeaves.{heldFor, classIn, targetOut, Points, storedIn, readOf, validIn}
 
 -- ---- kinds
 above : (n : ℕ) {k : ℕ} → n ≤ k → k ≢ n → suc n ≤ k
@@ -46,13 +48,17 @@ above n h e = omega numbers
 small : (k : ℕ) → k < 16 → nodeKind k ≡ noNode
 unfolding nodeKind
 small k h =
-    List·getD-append (replicate 16 noNode) (variable ∷ uintConstant ∷ boolConstant ∷ cell ∷ plus ∷ minus ∷ less ∷ atMost ∷ equal ∷ conditional ∷ valid ∷ classVariable ∷ reducedCell ∷ reducedValid ∷ []) noNode k h
+    List·getD-append (replicate 16 noNode)
+        (variable ∷ uintConstant ∷ boolConstant ∷ cell ∷ plus ∷ minus ∷ less ∷ atMost ∷ equal ∷ conditional ∷ valid ∷ classVariable ∷ reducedCell ∷ reducedValid ∷ []) noNode k h
     ∙ getD-replicate 16 k noNode noNode h
 
-pub no-kind : (k : ℕ) → k ≢ 16 → k ≢ 17 → k ≢ 18 → k ≢ 19 → k ≢ 20 → k ≢ 21 → k ≢ 22 → k ≢ 23 → k ≢ 24 → k ≢ 25 → k ≢ 26 → k ≢ 27 → k ≢ 28 → k ≢ 29 → nodeKind k ≡ noNode
+pub no-kind : (k : ℕ) → k ≢ 16 → k ≢ 17 → k ≢ 18 → k ≢ 19 → k ≢ 20 → k ≢ 21 → k ≢ 22 → k ≢ 23 → k ≢ 24 → k ≢ 25 → k ≢ 26 → k ≢ 27 → k ≢ 28 → k ≢ 29
+    → nodeKind k ≡ noNode
 unfolding nodeKind
 no-kind k h16 h17 h18 h19 h20 h21 h22 h23 h24 h25 h26 h27 h28 h29 = elim (decLe 16 k) [
-  | yes h ↦ List·getD-eq-default nodeKinds noNode {n = k} (above 29 (above 28 (above 27 (above 26 (above 25 (above 24 (above 23 (above 22 (above 21 (above 20 (above 19 (above 18 (above 17 (above 16 h h16) h17) h18) h19) h20) h21) h22) h23) h24) h25) h26) h27) h28) h29)
+  | yes h ↦ List·getD-eq-default nodeKinds noNode {n = k}
+      (above 29 (above 28 (above 27 (above 26 (above 25 (above 24
+      (above 23 (above 22 (above 21 (above 20 (above 19 (above 18 (above 17 (above 16 h h16) h17) h18) h19) h20) h21) h22) h23) h24) h25) h26) h27) h28) h29)
   | no h ↦ small k (below-16 h)
 ]
   where
@@ -120,7 +126,8 @@ module _ (t : List ℕ) (f : Frame) (a : ℕ) where
 module _ (t : List ℕ) (f : Frame) (ns bs : List ℕ) (a : ℕ) where
   pub var-in : a < f .decls → (cs : List ℕ) → variableOf (varsOf t f ns bs) a cs ≡ gives (bySort (sortIn t f a) (getD ns a 0) (getD bs a 0)) cs
   unfolding varsOf
-  var-in h cs = rw (length-tab (f .decls) (λ i. bySort (sortIn t f i) (getD ns i 0) (getD bs i 0)), lt-ltb a (f .decls) h, at-tab (f .decls) (λ i. bySort (sortIn t f i) (getD ns i 0) (getD bs i 0)) (Uint 0) a h)
+  var-in h cs = rw (length-tab (f .decls) (λ i. bySort (sortIn t f i) (getD ns i 0) (getD bs i 0)), lt-ltb a (f .decls) h, at-tab (f .decls)
+      (λ i. bySort (sortIn t f i) (getD ns i 0) (getD bs i 0)) (Uint 0) a h)
 
   pub var-out : f .decls ≤ a → (cs : List ℕ) → variableOf (varsOf t f ns bs) a cs ≡ stuck
   unfolding varsOf
@@ -131,7 +138,8 @@ module _ (t : List ℕ) (f : Frame) (ns bs : List ℕ) (a : ℕ) where
     unfolding heldFor outOf
     holds-out h = record { held = λ w l. rw (var-out h (drop at l)) }
 
-    held-in : a < f .decls → {s : Sort} → sortIn t f a ≡ s → (w : Ty) (cs : List ℕ) → heldFor (varsOf t f ns bs) count a w cs ≡ next (ofType w (bySort s (getD ns a 0) (getD bs a 0)) cs) (present count w)
+    held-in : a < f .decls → {s : Sort} → sortIn t f a ≡ s → (w : Ty) (cs : List ℕ)
+        → heldFor (varsOf t f ns bs) count a w cs ≡ next (ofType w (bySort s (getD ns a 0) (getD bs a 0)) cs) (present count w)
     unfolding heldFor
     held-in h e w cs = rw (var-in h cs, e)
 
@@ -178,11 +186,13 @@ module _ (t : List ℕ) (f : Frame) (ns bs : List ℕ) (a : ℕ) where
         go uint l = refl
         go pointer l = refl
 
-    pub holds-pointer : a < f .decls → sortIn t f a ≡ SPointer → getD bs a 0 ≤ count → Holds at (APointer (getD bs a 0) (getD ns a 0) at) (heldFor (varsOf t f ns bs) count a)
+    pub holds-pointer : a < f .decls → sortIn t f a ≡ SPointer → getD bs a 0 ≤ count
+        → Holds at (APointer (getD bs a 0) (getD ns a 0) at) (heldFor (varsOf t f ns bs) count a)
     unfolding outOf
     holds-pointer h e k = by-sort h e _ go
       where
-        go : (w : Ty) (l : List ℕ) → outOf w l (APointer (getD bs a 0) (getD ns a 0) at) ≡ next (ofType w (Pointer (getD bs a 0) (getD ns a 0)) (drop at l)) (present count w)
+        go : (w : Ty) (l : List ℕ)
+            → outOf w l (APointer (getD bs a 0) (getD ns a 0) at) ≡ next (ofType w (Pointer (getD bs a 0) (getD ns a 0)) (drop at l)) (present count w)
         go bool l = refl
         go uint l = refl
         go pointer l = rw (le-leb (getD bs a 0) count k)
@@ -210,11 +220,13 @@ module _ (t : List ℕ) (f : Frame) (ns bs : List ℕ) (a : ℕ) where
     unfolding classIn
     class-none h {s} e k = rw (var-in h cs, ← e) (go s k)
       where
-        no-class : (b : Bool) → next (asClass (if b then Truth (eqb (getD ns a 0) 1) else Uint (getD ns a 0)) cs) (λ k. choose (λ v. eqb (class ps v) k)) ≡ stuck
+        no-class : (b : Bool) → next (asClass (if b then Truth (eqb (getD ns a 0) 1) else Uint (getD ns a 0)) cs) (λ k. choose (λ v. eqb (class ps v) k))
+            ≡ stuck
         no-class true = refl
         no-class false = refl
 
-        go : (s : Sort) → OneOf (0 ∷ 1 ∷ 3 ∷ []) (tagOf sort s) → next (asClass (bySort s (getD ns a 0) (getD bs a 0)) cs) (λ k. choose (λ v. eqb (class ps v) k)) ≡ stuck
+        go : (s : Sort) → OneOf (0 ∷ 1 ∷ 3 ∷ []) (tagOf sort s)
+            → next (asClass (bySort s (getD ns a 0) (getD bs a 0)) cs) (λ k. choose (λ v. eqb (class ps v) k)) ≡ stuck
         go SBool h = no-class (leb (getD ns a 0) 1)
         go SUint h = refl
         go SClass h = absurd (miss (0 ∷ 1 ∷ 3 ∷ []) 2 tt h)
@@ -239,7 +251,8 @@ module _ (count : ℕ) (fs ls hs : List ℕ) where
   points-lacking zero h = absurd (not-suc-le-zero h)
   points-lacking (suc i) h = record { found = λ cs. rw (count-arrays, le-ltb i count (omega numbers)) }
 
-  pub points-to : (to : ℕ) → to ≢ 0 → to ≤ count → Points (To (getD fs (to - 1) 0) (getD ls (to - 1) 0) (eqb (getD hs (to - 1) 0) 1)) (arrayOf (arraysOf count fs ls hs) to)
+  pub points-to : (to : ℕ) → to ≢ 0 → to ≤ count
+      → Points (To (getD fs (to - 1) 0) (getD ls (to - 1) 0) (eqb (getD hs (to - 1) 0) 1)) (arrayOf (arraysOf count fs ls hs) to)
   unfolding targetOut
   points-to zero ne h = absurd (ne refl)
   points-to (suc i) ne h =

@@ -1,9 +1,10 @@
--- The machines: the view of the record as the model's state, and what the parts of the evaluators and of the rows say.
+-- The machines: `View`, the record as the model's state; `Code..`, what the parts of the evaluators and of the rows say.
 pub mod View
-pub mod Leaves
-pub mod Rows
-pub mod Moves
-pub mod Loops
-pub mod News
-pub mod Steps
-pub mod Fresh
+pub mod CodeAnswers
+pub mod CodeLeaves
+pub mod CodeRows
+pub mod CodeMoves
+pub mod CodeLoops
+pub mod CodeNews
+pub mod CodeSteps
+pub mod CodeFresh

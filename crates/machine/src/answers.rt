@@ -7,12 +7,13 @@ ghost use mathlib.Core.Path.{_≡_};
 ghost use mathlib.Core.Bool.{true};
 ghost use lib.ListN.{drop};
 ghost use lib.Dec.{eqb};
+ghost use Rattle.machine.specs.CodeAnswers.{outOf, failingOf, Says};
 ghost use Rattle.model.specs.Class.{class};
 ghost use Rattle.model.specs.Table.Ty.{bool, uint, pointer};
 ghost use Rattle.model.specs.Work.{give, choose};
 ghost use Rattle.lists.specs.If.{if_then_else_};
-ghost use Rattle.machine.specs.View.{places, outOf, failingOf, Says};
-ghost use Rattle.machine.specs.Leaves.{arith, movedBy, testOf};
+ghost use Rattle.machine.specs.View.{places};
+ghost use Rattle.machine.specs.CodeLeaves.{arith, movedBy, testOf};
 
 // A value and the place of the next choice, or why there is none: a failure, a choice that is not allowed, no choice left, or stuck, the
 // outcome that is no end.

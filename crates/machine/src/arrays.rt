@@ -8,10 +8,11 @@ use crate::frame::is_tracked;
 ghost use mathlib.Core.Path.{_≡_};
 ghost use Prim.Native.Nat.{_≤_};
 ghost use lib.ListN.{drop};
+ghost use Rattle.machine.specs.CodeAnswers.{outOf, Says};
 ghost use Rattle.model.specs.Table.Ty.{bool, uint};
 ghost use Rattle.model.specs.Eval.{ptr, arrayOf};
-ghost use Rattle.machine.specs.View.{places, arraysOf, outOf, Says};
-ghost use Rattle.machine.specs.Leaves.{Points, storedIn, trackedIn, readOf, loadOf, validIn};
+ghost use Rattle.machine.specs.View.{places, arraysOf};
+ghost use Rattle.machine.specs.CodeLeaves.{Points, storedIn, trackedIn, readOf, loadOf, validIn};
 
 // An array's first cell, its length and whether it is reduced; no array; or one that the record lacks.
 pub enum Target {

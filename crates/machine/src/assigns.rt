@@ -14,13 +14,14 @@ use lists::word_or_zero;
 ghost use mathlib.Core.Path.{_≡_};
 ghost use Prim.Native.Nat.{ℕ, _<_, _≤_, _^_};
 ghost use lib.ListN.{drop};
+ghost use Rattle.machine.specs.CodeAnswers.{outOf, lent, operand};
 ghost use Rattle.lists.specs.If.{if_then_else_};
 ghost use Rattle.model.specs.Table.{typeOf};
 ghost use Rattle.model.specs.Table.Row.{assign};
 ghost use Rattle.model.specs.Step.{rowRule};
-ghost use Rattle.machine.specs.View.{places, tableFor, stateOf, outOf, lent, operand};
-ghost use Rattle.machine.specs.Rows.{moveOut, Still};
-ghost use Rattle.machine.specs.Moves.{heldSort, fitsIn, putIn};
+ghost use Rattle.machine.specs.View.{places, tableFor, stateOf};
+ghost use Rattle.machine.specs.CodeRows.{moveOut, Still};
+ghost use Rattle.machine.specs.CodeMoves.{heldSort, fitsIn, putIn};
 
 // The sort of value that a variable of a sort with a number holds: 1 bool, 2 uint, 3 pointer, 4 class; 0 for a bool with another number
 // than 0 and 1, which takes no value.

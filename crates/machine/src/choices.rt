@@ -3,7 +3,7 @@ use reader::Choice;
 use reader::take_choice;
 ghost use mathlib.Core.Path.{_≡_};
 ghost use lib.ListN.{drop};
-ghost use Rattle.machine.specs.View.{leftOf};
+ghost use Rattle.machine.specs.CodeAnswers.{leftOf};
 
 // The choice at a cursor, with the cursor after it, or none left.
 pub fn choice_at(list: &[u32], at: usize) -> Choice

@@ -20,8 +20,8 @@ use crate::variables::variable;
 ghost use mathlib.Core.Path.{_≡_};
 ghost use Prim.Native.Nat.{_≤_};
 ghost use lib.ListN.{drop};
+ghost use Rattle.machine.specs.CodeAnswers.{outOf, lent, operand};
 ghost use Rattle.model.specs.Table.Ty.{bool, uint, pointer};
-ghost use Rattle.machine.specs.View.{outOf, lent, operand};
 
 // A node that is an operand of `user`, which takes a pointer.
 pub fn pointer_at<'a>(

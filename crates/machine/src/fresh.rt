@@ -7,7 +7,7 @@ use crate::variables::sort_at;
 ghost use mathlib.Core.Path.{_≡_};
 ghost use Prim.Native.Nat.{_<_, _≤_};
 ghost use Rattle.machine.specs.View.{varsOf};
-ghost use Rattle.machine.specs.Fresh.{startNumber, freshVars};
+ghost use Rattle.machine.specs.CodeFresh.{startNumber, freshVars};
 
 // What a variable's number is at first: that of the class of 0 for a variable that holds a class, else 0.
 fn start_number(t: &[u32], f: Frame, i: usize) -> u32

@@ -18,12 +18,13 @@ ghost use mathlib.Core.Path.{_≡_};
 ghost use mathlib.Core.List.{List};
 ghost use Prim.Native.Nat.{ℕ, _<_, _≤_, _+_, _*_};
 ghost use lib.ListN.{drop, length};
+ghost use Rattle.machine.specs.CodeAnswers.{lent};
 ghost use Rattle.model.specs.Table.{rowAt};
 ghost use Rattle.model.specs.Table.Row.{loopEnd};
 ghost use Rattle.model.specs.Step.{withLoops, enter, loopAt, rowRule};
-ghost use Rattle.machine.specs.View.{places, tableFor, stateOf, lent};
-ghost use Rattle.machine.specs.Rows.{moveOut, Still};
-ghost use Rattle.machine.specs.Loops.{boundsOut, boundsEnd, endedBounds, boundsOf, chosenBounds, BoolsFit, outer, loopRow, iterSort, iterNumber, iterOf, outBy, Leads, Near};
+ghost use Rattle.machine.specs.View.{places, tableFor, stateOf};
+ghost use Rattle.machine.specs.CodeRows.{moveOut, Still};
+ghost use Rattle.machine.specs.CodeLoops.{boundsOut, boundsEnd, endedBounds, boundsOf, chosenBounds, BoolsFit, outer, loopRow, iterSort, iterNumber, iterOf, outBy, Leads, Near};
 
 // A loop's start and end, with the place of the next choice; or why there are none.
 pub enum Bounds {

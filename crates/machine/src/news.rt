@@ -15,8 +15,8 @@ ghost use lib.ListN.{drop, length, replicate};
 ghost use Rattle.lists.specs.If.{if_then_else_};
 ghost use Rattle.model.specs.Step.{cleared, newArray, rowRule};
 ghost use Rattle.machine.specs.View.{places, tableFor, stateOf};
-ghost use Rattle.machine.specs.Rows.{moveOut, Unmoved};
-ghost use Rattle.machine.specs.News.{sizeFor, usedIn, lacksRoom, arrayRow};
+ghost use Rattle.machine.specs.CodeRows.{moveOut, Unmoved};
+ghost use Rattle.machine.specs.CodeNews.{sizeFor, usedIn, lacksRoom, arrayRow};
 
 // How many cells an array of a length has.
 pub fn size_for(f: Frame, len: u32, reduced: bool) -> u32

@@ -5,7 +5,7 @@ ghost use mathlib.Core.Path.{_≡_};
 ghost use Prim.Native.Nat.{_<_, _≤_};
 ghost use lib.ListN.{getD};
 ghost use Rattle.model.specs.Table.{nodeKind};
-ghost use Rattle.machine.specs.Leaves.{decoded, nodeIn};
+ghost use Rattle.machine.specs.CodeLeaves.{decoded, nodeIn};
 
 // A node with its operands. 19 and 28 differ by a bool, and so do 20 and 21; 22 to 24 differ by the kind.
 pub enum Node {

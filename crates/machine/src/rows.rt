@@ -2,7 +2,7 @@
 use crate::Machine;
 use crate::answers::Answer;
 ghost use mathlib.Core.Path.{_≡_};
-ghost use Rattle.machine.specs.Moves.{endedOf};
+ghost use Rattle.machine.specs.CodeMoves.{endedOf};
 
 // It goes on, or ends the run, each with the place of the next choice; a choice that is not allowed; no choice left; or stuck, the outcome
 // that is no end.

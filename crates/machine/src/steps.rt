@@ -9,8 +9,8 @@ ghost use Prim.Native.Nat.{_≤_, _+_, _*_};
 ghost use lib.ListN.{drop, getD};
 ghost use Rattle.model.specs.Step.{step};
 ghost use Rattle.machine.specs.View.{places, tableFor, stateOf};
-ghost use Rattle.machine.specs.Rows.{moveOut, Unmoved};
-ghost use Rattle.machine.specs.Steps.{Within};
+ghost use Rattle.machine.specs.CodeRows.{moveOut, Unmoved};
+ghost use Rattle.machine.specs.CodeSteps.{Within};
 
 // Word i of a row: its kind or an operand. For our crates above, which see to what is required here.
 pub fn row_word(t: &[u32], f: Frame, row: u32, i: usize) -> u32

@@ -13,8 +13,8 @@ ghost use lib.ListN.{drop};
 ghost use Rattle.model.specs.Table.Row.{skip};
 ghost use Rattle.model.specs.Step.{rowRule};
 ghost use Rattle.machine.specs.View.{places, tableFor, stateOf};
-ghost use Rattle.machine.specs.Rows.{moveOut, Still};
-ghost use Rattle.machine.specs.Moves.{testRow, falseEnd};
+ghost use Rattle.machine.specs.CodeRows.{moveOut, Still};
+ghost use Rattle.machine.specs.CodeMoves.{testRow, falseEnd};
 
 // The end of a row whose bool is false.
 fn false_end(assume: bool, at: usize) -> Outcome

@@ -7,9 +7,10 @@ use lists::word_or_zero;
 ghost use mathlib.Core.Path.{_≡_};
 ghost use Prim.Native.Nat.{_<_, _≤_};
 ghost use lib.ListN.{drop};
+ghost use Rattle.machine.specs.CodeAnswers.{outOf, Holds};
 ghost use Rattle.model.specs.Table.Ty.{uint};
-ghost use Rattle.machine.specs.View.{places, sortIn, varsOf, outOf, Holds};
-ghost use Rattle.machine.specs.Leaves.{heldFor, classIn};
+ghost use Rattle.machine.specs.View.{places, sortIn, varsOf};
+ghost use Rattle.machine.specs.CodeLeaves.{heldFor, classIn};
 
 // What kind of value a variable holds.
 pub enum Sort {

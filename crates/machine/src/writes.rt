@@ -15,12 +15,13 @@ use crate::rows::Stepped;
 ghost use mathlib.Core.Path.{_≡_};
 ghost use Prim.Native.Nat.{_<_, _≤_};
 ghost use lib.ListN.{drop};
+ghost use Rattle.machine.specs.CodeAnswers.{lent, outOf};
 ghost use Rattle.model.specs.Table.Ty.{uint};
 ghost use Rattle.model.specs.Table.Row.{store, reducedStore};
 ghost use Rattle.model.specs.Eval.{ptr};
 ghost use Rattle.model.specs.Step.{made, rowRule};
-ghost use Rattle.machine.specs.View.{places, tableFor, stateOf, arraysOf, lent, outOf};
-ghost use Rattle.machine.specs.Rows.{moveOut, Unmoved, bothOf, bothOut, endedBoth, outcomeOf, spotOut, Spots, spotEnd, spotIn, spotAt, spotKept, placeOf, aimOf, aimReduced, aimBy, Puts, Unwritten, Writes};
+ghost use Rattle.machine.specs.View.{places, tableFor, stateOf, arraysOf};
+ghost use Rattle.machine.specs.CodeRows.{moveOut, Unmoved, bothOf, bothOut, endedBoth, outcomeOf, spotOut, Spots, spotEnd, spotIn, spotAt, spotKept, placeOf, aimOf, aimReduced, aimBy, Puts, Unwritten, Writes};
 
 // A pointer, by its array and place, and a number, with the place of the next choice; or why there are none.
 pub enum Operands {

@@ -1,40 +1,40 @@
 -- Demand 3: fresh states, the matching of whole runs and the writer's room, put together.
 -- Assumes nothing.
 use mathlib.Core.Path.{_≡_, refl, sym, ap, _∙_, subst}
-use Prim.Native.Nat.{ℕ, zero, suc, _+_, _-_, _≤_, _<_}
+use Prim.Native.Nat.{ℕ, zero, suc, _+_, _*_, _-_, _≤_}
 use native.Mathlib.Nat.{not-suc-le-zero}
 use native.Mathlib.Omega.{arith}
-use mathlib.Core.Bool.{Bool, true, false, true≢false}
+use mathlib.Core.Bool.{Bool, true, false, true≢false, false≢true}
 use mathlib.Core.List.{List, [], _∷_, _++_, append-nil}
-use lib.ListN.{length, getD, replicate, length-replicate}
-use lib.Dec.{eqb, lit≤}
-use borrow.Author.Tests.{eq-eqb}
+use lib.ListN.{getD}
+use lib.Dec.{lit≤}
 use Rattle.lists.specs.If.{if_then_else_}
 use Rattle.lists.proofs.TabLaws.{at-tab, length-tab}
-use Rattle.model.specs.Class.{class, pair, tracked}
-use Rattle.model.specs.Table.{Table, Ty, markedUint, openAt, tableOf, typeAt}
+use Rattle.model.specs.Class.{acceptedPlaces, class, tracked}
+use Rattle.model.specs.Table.{most, Table, Ty, openAt, tableOf, typeAt}
 use Rattle.model.specs.Table.Ty.{bool, uint, pointer}
-use Rattle.model.specs.Work.{next}
-use Rattle.model.specs.State.{MachineKind, classed, fresh, startOf, zeroOf}
+use Rattle.model.specs.State.{MachineKind, State, classed, fresh, mostArrays, startOf, zeroOf}
 use Rattle.model.specs.State.MachineKind.{plain, reduced}
 use Rattle.model.specs.State.Value.{Uint, Class}
-use Rattle.model.specs.Eval.{used}
-use Rattle.model.specs.Step.{Report, run}
+use Rattle.model.specs.Eval.{cellsLaid}
+use Rattle.model.specs.Step.{End, Report, run}
 use Rattle.model.specs.Step.End.{outOfSteps, listFull}
 use Rattle.model.specs.Step.Report.{ended}
 use Rattle.model.specs.Reduce.{reduce}
-use Rattle.model.specs.Agree.{Agree, SameVariable, arrayAt}
-use Rattle.model.specs.Writer.{written}
+use Rattle.model.specs.Agree.{Agree, arrayAt}
 use Rattle.model.specs.Accepted.{Accepted, CanHave, HasType, Holds}
-use Rattle.model.specs.Demand3.{Demand3Holds, Ends, FullAfter, Matched, choiceList, plainRun, wantsCells}
-use Rattle.model.proofs.ClassLaws.{Spaced, class-small, pair-spaced}
-use Rattle.model.proofs.Linked.{Linked, linked-agree}
-use Rattle.model.proofs.MatchStep.{ReducesRows}
-use Rattle.model.proofs.MatchRun.{Alike, match-run}
-use Rattle.model.proofs.MatchRun.Alike.{alike, wanting, neither}
+use Rattle.model.specs.Demand3.{Demand3Holds, Ends, FullAfter, Matched, Numbers, choiceList, choicesUsed, plainRun, reducedRun, wantsCells}
+use Rattle.model.proofs.ClassLaws.{one-cell-more}
+use Rattle.model.proofs.Match.{All}
+use Rattle.model.proofs.Safe.{leaves-plain}
+use Rattle.model.proofs.KindsIn.{table-plain}
+use Rattle.model.proofs.Linked.{Closed, Extra, Related}
+use Rattle.model.proofs.MatchEval.{unreduced}
+use Rattle.model.proofs.MatchRun.{AlikeRuns, HandedRun, LinkedNow, fresh-runs}
+use Rattle.model.proofs.MatchRun.AlikeRuns.{end-alike, stop-alike, first-lacks, second-lacks, stuck-alike}
 use Rattle.model.proofs.WriterLaws.{FullFrom, write-fits, write-full}
-use Rattle.model.proofs.ReduceLaws.{reducedTable, reduces, same-markedUint, table-reduce}
-use Rattle.model.proofs.Typing.{marked-uint, plain-nodes, plain-rows}
+use Rattle.model.proofs.ReduceLaws.{reducedTable, reduces, table-reduce}
+use Rattle.model.proofs.Typing.{plain-nodes, plain-rows}
 use Rattle.model.proofs.SafeStep.{never-stuck}
 use Rattle.model.proofs.ReducedAccepted.{reduction-accepted}
 
@@ -51,7 +51,7 @@ start-holds ps false w = zero-typed w
 
 -- a table can have its fresh state
 pub fresh-can : (ps : List ℕ) (m : MachineKind) (t : Table) → CanHave ps m t (fresh ps m t)
-unfolding fresh openAt used
+unfolding fresh openAt cellsLaid
 fresh-can ps m t = record {
   row = omega arith;
   loops = refl;
@@ -61,114 +61,159 @@ fresh-can ps m t = record {
   plainArrays = λ e i h. absurd (not-suc-le-zero h);
 }
 
--- a marked uint is 0 in the plain state and holds the class of 0 in the reduced one
-start-same : (ps : List ℕ) (b : Bool) (w : Ty) → (b ≡ true → w ≡ uint) → SameVariable ps b (zeroOf w) (if b then Class (class ps 0) else zeroOf w)
-start-same ps true w h = (0, ap zeroOf (h refl), refl)
-start-same ps false w h = refl
+-- numbers of 32 bits: what the machine works out from them is one too
+pub numbers-at : (l : List ℕ) (i : ℕ) → Numbers l → getD l i 0 ≤ most
+numbers-at [] i h = omega arith
+numbers-at (x ∷ l) zero h = h .0
+numbers-at (x ∷ l) (suc i) h = numbers-at l i (h .1)
 
-module _ (ps : List ℕ) (t : Table) (A : Accepted plain t) where
-  R : ReducesRows t (reducedTable t)
-  R = reduces t (plain-nodes t A) (plain-rows t A)
+pub closed-any : (t : Table) → Closed (λ n. Unit {0}) t
+closed-any t = record { none = tt; sum = λ x y h. tt; difference = λ x y h. tt; constant = λ n. tt }
 
-  fresh-variable : (i : ℕ) → SameVariable ps (markedUint t i) (startOf [] plain t i) (startOf ps reduced (reducedTable t) i)
-  fresh-variable i = rw (same-markedUint (t .words) i, R .type i) (start-same ps (markedUint t i) (typeAt t i) (marked-uint t i))
+pub closed-numbers : (t : Table) → Numbers (t .words) → Closed (λ n. n ≤ most) t
+closed-numbers t h = record {
+  none = omega arith;
+  sum = λ x y k. k;
+  difference = λ x y k. omega arith;
+  constant = λ n. numbers-at (t .words) (4 * (t .decls + n) + 1) h;
+}
 
-  fresh-linked : Linked ps t [] (fresh [] plain t) (fresh ps reduced (reducedTable t))
-  unfolding fresh used
-  fresh-linked = record {
-    row = refl;
-    loops = refl;
-    vars = record {
-      number = length-tab (t .decls) (startOf ps reduced (reducedTable t)) ∙ sym (length-tab (t .decls) (startOf [] plain t));
-      variable = λ i h.
-          let k : i < t .decls = omega (arith, length-tab (t .decls) (startOf [] plain t)) in
-          rw (at-tab (t .decls) (startOf [] plain t) (Uint 0) i k, at-tab (t .decls) (startOf ps reduced (reducedTable t)) (Uint 0) i k) (fresh-variable i);
-    };
-    memory = record {
-      number = refl;
-      flags = refl;
-      flag = λ i h. absurd (not-suc-le-zero h);
-      plain = λ i h. absurd (not-suc-le-zero h);
-      len = λ i h. absurd (not-suc-le-zero h);
-      equal = λ i h. absurd (not-suc-le-zero h);
-      laidPlain = record { sequence = tt; room = omega arith };
-      laidReduced = record { sequence = tt; room = omega arith };
-      fewer = omega arith;
-      room = simp length-replicate (lit≤ tt);
-    };
+module _ (t : Table) (A : Accepted plain t) {F : ℕ → Type 0} (C : Closed F t) where
+  -- the plain machine on the table, and the reduced one on its reduction
+  pub plain-related : Related plain F (λ i. false) (λ i. false) t t (reducedTable t)
+  plain-related = record {
+    kinds = record { node = plain-nodes t A; row = plain-rows t A };
+    first = table-plain t;
+    second = reduces t;
+    closed = C;
+    itself = λ h. refl;
+    uints = λ i e. absurd (false≢true e);
+    pointers = λ i e. absurd (false≢true e);
   }
 
-  -- for places with a gap, the fresh reduced run under the written list ends as the fresh plain run does
-  fresh-alike : Spaced 0 ps → (limit : ℕ)
-      → Alike ps t [] (run [] t limit 0 (fresh [] plain t) []) (run ps (reducedTable t) limit 0 (fresh ps reduced (reducedTable t)) (written ps t limit [] (fresh [] plain t)))
-  fresh-alike s limit =
-      subst (λ l. Alike ps t [] (run [] t limit 0 (fresh [] plain t) []) (run ps (reducedTable t) limit 0 (fresh ps reduced (reducedTable t)) l)) (append-nil (written ps t limit [] (fresh [] plain t)))
-      (match-run ps t (reducedTable t) R (λ n. omega (arith, class-small ps 0 n s)) [] limit 0 [] fresh-linked)
+  -- linked states agree
+  pub linked-agree : (ps : List ℕ) (extra : Extra) {p r : State} → LinkedNow ps extra plain-related p r → Agree ps t p r
+  linked-agree ps extra {p} {r} (ks, N, L) = record {
+    here = L .here;
+    variables = L .vars .number;
+    variable = L .vars .variable;
+    arrays = L .memory .number;
+    len = L .memory .len;
+    cells = λ i h j k g.
+        simp (unreduced (arrayAt (p .arrays) i .reduced) (arrayAt (r .arrays) i .reduced) (L .memory .also i h) refl) at (L .memory .equal i h j k g);
+  }
 
--- ---- a pair
-
-keeps-tracked : (b c : Bool) → c ≡ true → (if b then c else true) ≡ true
+pub keeps-tracked : (b c : Bool) → c ≡ true → (if b then c else true) ≡ true
 keeps-tracked true c e = e
 keeps-tracked false c e = refl
 
-first-tracked : (c1 c2 : ℕ) → tracked (pair c1 c2) c1 ≡ true
-unfolding tracked
-first-tracked c1 c2 = rw (eq-eqb c1 c1 refl)
+-- a reduced array takes at most a cell more, and there are so many cells more
+abbrev pub oneMore : ℕ → Extra
+oneMore n = record { perArray = 1; inAll = n }
 
-second-tracked : (c1 c2 : ℕ) → tracked (pair c1 c2) c2 ≡ true
-unfolding tracked
-second-tracked c1 c2 = rw (eq-eqb c2 c2 refl) (go (eqb c1 c2))
-  where
-    go : (b : Bool) → (if b then true else true) ≡ true
-    go true = refl
-    go false = refl
+-- the run of a reduction
+pub reduced-run : (ps P : List ℕ) (limit : ℕ) (cs : List ℕ)
+    → reducedRun ps (reduce P) limit cs ≡ run ps (reducedTable (tableOf P)) limit 0 (fresh ps reduced (reducedTable (tableOf P))) cs
+reduced-run ps P limit cs = ap (λ (t : Table). run ps t limit 0 (fresh ps reduced t) cs) (table-reduce P)
 
-module _ (c1 c2 : ℕ) (P : List ℕ) where
-  -- runs that end alike match, where the plain one does not end for want of cells
-  from-alike : (l : List ℕ) {a b : Report} → Alike (pair c1 c2) (tableOf P) [] a b → wantsCells a ≡ false → Ends [] plain (tableOf P) [] a → Matched c1 c2 P l a b
-  from-alike l (alike {e = e} {n = n} {p = p} {r = r} ks L) w d =
-      let G : Agree (pair c1 c2) (tableOf P) p r = linked-agree L in
+module _ (ps : List ℕ) (h : acceptedPlaces ps ≡ true) (P : List ℕ) (A : Accepted plain (tableOf P)) where
+  abbrev second : ℕ → List ℕ → Report
+  second limit ds = run ps (reducedTable (tableOf P)) limit 0 (fresh ps reduced (reducedTable (tableOf P))) ds
+
+  ends : (limit : ℕ) {r : Report} → plainRun P limit ≡ r → Ends [] plain (tableOf P) [] r
+  ends limit f = subst (Ends [] plain (tableOf P) []) f
+      (never-stuck [] plain (tableOf P) A (fresh [] plain (tableOf P)) (fresh-can [] plain (tableOf P)) limit [])
+
+  module _ {F : ℕ → Type 0} (C : Closed F (tableOf P)) where
+    abbrev R : Related plain F (λ i. false) (λ i. false) (tableOf P) (tableOf P) (reducedTable (tableOf P))
+    R = plain-related (tableOf P) A C
+
+    abbrev S : State → State → Type 0
+    S = LinkedNow ps (oneMore mostArrays) R
+
+    -- the choice list hands the second run what it takes
+    handed : (limit : ℕ) → HandedRun plain F (oneMore mostArrays) S (plainRun P) second limit [] (choiceList ps P limit)
+    handed limit = fresh-runs ps (oneMore mostArrays) R (lit≤ tt) (one-cell-more ps h) limit [] tt
+
+    -- the two runs, where the plain one does not end for want of cells
+    pub record PlainAlike (limit : ℕ) (list : List ℕ) : Type 0 where
+      pub end : End
+      pub steps : ℕ
+      pub last : State
+      pub lastReduced : State
+      pub linked : S last lastReduced
+      pub plainIs : plainRun P limit ≡ ended end steps last []
+      pub reducedIs : (ds : List ℕ) → second limit (list ++ ds) ≡ ended end steps lastReduced ds
+
+    pub plain-alike : (limit : ℕ) → wantsCells (plainRun P limit) ≡ false → PlainAlike limit (choiceList ps P limit)
+    plain-alike limit w = subst (PlainAlike limit) (handed limit .written (λ l. omega arith) refl) (go (handed limit .alike))
+      where
+        go : {l : List ℕ} → AlikeRuns (oneMore mostArrays) S (plainRun P) second limit l → PlainAlike limit l
+        go (end-alike e n p r cs L f g) = record {
+          end = e;
+          steps = n;
+          last = p;
+          lastReduced = r;
+          linked = L;
+          plainIs = f ∙ ap (ended e n p) (leaves-plain (ends limit f .2));
+          reducedIs = g;
+        }
+        go (stop-alike e x n p r cs ls L f g) = absurd (x (ends limit f .0))
+        go (first-lacks n p cs f) = absurd (true≢false (sym (ap wantsCells f) ∙ w))
+        go (second-lacks m j n p r cs ls k L f g q) = absurd (omega arith)
+        go (stuck-alike f g) = absurd (ends limit f)
+
+    -- the list's numbers fit
+    list-fits : (limit : ℕ) → All F (choiceList ps P limit)
+    list-fits limit = subst (All F) (handed limit .written (λ l. omega arith) refl) (handed limit .fitting (λ f. ends limit f))
+
+  numbers-are : (l : List ℕ) → All (λ n. n ≤ most) l → Numbers l
+  numbers-are [] k = tt
+  numbers-are (x ∷ l) k = (k .0, numbers-are l (k .1))
+
+  from-alike : (limit : ℕ) (l : List ℕ) → PlainAlike (closed-any (tableOf P)) limit l → Matched ps P l (plainRun P limit) (second limit l)
+  from-alike limit l B =
+      let G : Agree ps (tableOf P) (B .last) (B .lastReduced) = linked-agree (tableOf P) A (closed-any (tableOf P)) ps (oneMore mostArrays) (B .linked) in
+      let q : second limit l ≡ ended (B .end) (B .steps) (B .lastReduced) [] = ap (second limit) (sym (append-nil l)) ∙ B .reducedIs [] in
       record {
-        end = e;
-        steps = n;
-        last = p;
-        lastReduced = r;
-        plainIs = refl;
-        reducedIs = refl;
-        allUsed = omega arith;
+        end = B .end;
+        steps = B .steps;
+        last = B .last;
+        lastReduced = B .lastReduced;
+        plainIs = B .plainIs;
+        reducedIs = q;
+        allUsed = ap (choicesUsed l) q ∙ omega arith;
         agree = G;
-        firstCell = λ i h k. G .cells i h c1 k (keeps-tracked (arrayAt (r .arrays) i .reduced) (tracked (pair c1 c2) c1) (first-tracked c1 c2));
-        secondCell = λ i h k. G .cells i h c2 k (keeps-tracked (arrayAt (r .arrays) i .reduced) (tracked (pair c1 c2) c2) (second-tracked c1 c2));
+        trackedCells = λ c e i j k. G .cells i j c k (keeps-tracked (arrayAt (B .lastReduced .arrays) i .reduced) (tracked ps c) e);
       }
-  from-alike l wanting w d = absurd (true≢false w)
-  from-alike l neither w d = absurd d
 
-  full-after : (limit room : ℕ) {w : Report} → FullFrom (pair c1 c2) (tableOf P) limit 0 [] (fresh [] plain (tableOf P)) room w → FullAfter c1 c2 P limit room w
+  full-after : (limit room : ℕ) {w : Report} → FullFrom ps (tableOf P) limit 0 [] (fresh [] plain (tableOf P)) room w → FullAfter ps P limit room w
   full-after limit room F = record {
     steps = F .steps;
     last = F .last;
-    reportIs = F .reportIs ∙ ap (λ (n : ℕ). ended listFull n (F .last) (choiceList c1 c2 P (F .steps))) (omega arith);
+    reportIs = F .reportIs ∙ ap (λ (n : ℕ). ended listFull n (F .last) (choiceList ps P (F .steps))) (omega arith);
     plainIs = F .plainIs ∙ ap (λ (n : ℕ). ended outOfSteps n (F .last) []) (omega arith);
     within = F .within;
     fits = F .fits;
     next = F .more;
   }
 
+  words-are : Numbers P → Numbers (tableOf P .words)
+  unfolding tableOf
+  words-are k = k
+
 pub demand-3 : Demand3Holds
-demand-3 c1 c2 h P A = record {
+demand-3 ps h P A = record {
   plainEnds = never-stuck [] plain (tableOf P) A;
-  reducedEnds = never-stuck (pair c1 c2) reduced (tableOf (reduce P)) (reduction-accepted P A);
+  reducedEnds = never-stuck ps reduced (tableOf (reduce P)) (reduction-accepted P A);
   plainFresh = fresh-can [] plain (tableOf P);
-  reducedFresh = fresh-can (pair c1 c2) reduced (tableOf (reduce P));
+  reducedFresh = fresh-can ps reduced (tableOf (reduce P));
   matched = λ limit w.
-      subst (λ (q : Table). Matched c1 c2 P (choiceList c1 c2 P limit) (plainRun P limit) (run (pair c1 c2) q limit 0 (fresh (pair c1 c2) reduced q) (choiceList c1 c2 P limit))) (sym (table-reduce P))
-      (from-alike c1 c2 P (choiceList c1 c2 P limit) (fresh-alike (pair c1 c2) (tableOf P) A (pair-spaced c1 c2 h) limit) w
-      (never-stuck [] plain (tableOf P) A (fresh [] plain (tableOf P)) (fresh-can [] plain (tableOf P)) limit []));
-  fits = λ limit room l. write-fits (pair c1 c2) (tableOf P) (reducedTable (tableOf P)) (R (pair c1 c2) (tableOf P) A) (small (pair c1 c2) (pair-spaced c1 c2 h)) limit 0 [] (fresh-linked (pair c1 c2) (tableOf P) A) room l;
+      subst (Matched ps P (choiceList ps P limit) (plainRun P limit)) (sym (reduced-run ps P limit (choiceList ps P limit)))
+      (from-alike ps h P A limit (choiceList ps P limit) (plain-alike ps h P A (closed-any (tableOf P)) limit w));
+  numbers = λ k limit.
+      numbers-are ps h P A (choiceList ps P limit) (list-fits ps h P A (closed-numbers (tableOf P) (words-are ps h P A k)) limit);
+  fits = λ limit room l. write-fits ps (tableOf P) A limit 0 [] (fresh [] plain (tableOf P)) (fresh-can [] plain (tableOf P)) room l;
   full = λ limit room l.
-      full-after c1 c2 P limit room
-      (write-full (pair c1 c2) (tableOf P) (reducedTable (tableOf P)) (R (pair c1 c2) (tableOf P) A) (small (pair c1 c2) (pair-spaced c1 c2 h)) limit 0 [] (fresh-linked (pair c1 c2) (tableOf P) A) room l);
+      full-after ps h P A limit room (write-full ps (tableOf P) A limit 0 [] (fresh [] plain (tableOf P)) (fresh-can [] plain (tableOf P)) room l);
 }
-  where
-    small : (ps : List ℕ) → Spaced 0 ps → (n : ℕ) → class ps n ≤ n + 1
-    small ps s n = omega (arith, class-small ps 0 n s)

@@ -2,40 +2,41 @@
 -- Assumes nothing.
 use mathlib.Core.Path.{_≡_, refl, sym, ap, _∙_, subst}
 use Prim.Native.Nat.{ℕ, zero, suc, _+_, _-_, _≤_, _<_}
-use native.Mathlib.Nat.{not-suc-le-zero}
 use native.Mathlib.Decide.{ℕ-discrete}
 use native.Mathlib.Omega.{arith}
-use mathlib.Core.Bool.{Bool, true, false, true≢false, false≢true}
+use mathlib.Core.Bool.{Bool, true, false, true≢false}
 use mathlib.Core.List.{List, [], _∷_, _++_}
-use lib.ListN.{length, getD, set, length-set}
+use lib.ListN.{length, getD, set}
 use lib.Seq.{getD-set-same, getD-set-other}
 use lib.Dec.{ltb, leb, eqb}
 use borrow.Author.Tests.{ltb-true, leb-true, leb-false}
 use Rattle.lists.specs.If.{if_then_else_}
 use Rattle.lists.proofs.TabLaws.{at-tab}
 use Rattle.model.specs.Class.{class}
-use Rattle.model.specs.Table.{Node, Row, Table, Ty, matchingEnd, nodeAt, nodeKind, openAt, rowAt, rowKind, typeAt}
+use Rattle.model.specs.Table.{Node, Row, Table, Ty, matchingEnd, nodeAt, nodeKind, openAt, rowAt, rowKind, typeAt, most}
 use Rattle.model.specs.Table.Ty.{bool, uint, pointer}
-use Rattle.model.specs.Table.Node.{variable, uintConstant, boolConstant, cell, plus, minus, less, atMost, equal, conditional, valid, classVariable, reducedCell, reducedValid, noNode}
+use Rattle.model.specs.Table.Node.{variable, uintConstant, boolConstant, cell, plus, minus, less, atMost, equal, conditional, valid, classVariable}
+use Rattle.model.specs.Table.Node.{reducedCell, reducedValid, noNode}
 use Rattle.model.specs.Table.Row.{skip, assign, store, assert, assume, array, loop, loopEnd, reducedStore, reducedArray, classLoop, noRow}
 use Rattle.model.specs.Work.{Out, Work, _>>=_, choose, fail, give, next, wrong}
 use Rattle.model.specs.Work.Out.{gives, fails, badChoice, noChoice, stuck}
-use Rattle.model.specs.State.{Array, Loop, MachineKind, State, Value, classed, fresh, most, mostArrays, sortOf, startOf}
+use Rattle.model.specs.State.{Array, Loop, MachineKind, Position, State, Value, classed, formOf, fresh, mostArrays, position, startOf}
 use Rattle.model.specs.State.MachineKind.{reduced}
 use Rattle.model.specs.State.Value.{Truth, Uint, Class, Pointer}
-use Rattle.model.specs.Eval.{Of, Ptr, Store, add, arrayOf, asClass, bools, cellOf, compare, eval, evalF, indexOf, isValid, keeps, load, ofType, present, reducedLoad, rule, sizeOf, storeOf, subtract, sumOrDifference, uints, used, value, variableOf}
-use Rattle.model.specs.Step.{End, Move, addArray, after, cleared, enter, laidNext, loopAt, newArray, node, past, pastEnd, put, reducedWrite, repeatLoop, rowRule, run, setVar, step, withLoops, withVar, write}
+use Rattle.model.specs.Eval.{Of, Ptr, Contents, add, arrayOf, asClass, bools, cellOf, compare, eval, evalF, indexOf, isValid, keeps, load, ofType}
+use Rattle.model.specs.Eval.{present, reducedLoad, rule, sizeOf, contentsOf, subtract, sumOrDifference, uints, cellsLaid, value, variableOf}
+use Rattle.model.specs.Step.{End, Move, addArray, after, cleared, enter, laidNext, loopAt, newArray, node, past, pastEnd, put, reducedWrite}
+use Rattle.model.specs.Step.{finished, goTo, repeatLoop, rowRule, run, setVar, step, withArray, withHere, withLoops, withMemory, withVar, write}
 use Rattle.model.specs.Step.End.{done, wantOfCells, outOfSteps}
 use Rattle.model.specs.Step.Move.{to, stop}
 use Rattle.model.specs.Step.Report.{ended}
 use Rattle.model.specs.Accepted.{Accepted, CanHave, Regular, Started, nodeType}
 use Rattle.model.specs.Demand3.{EndsRegular, FreshRegular, Numbers, StaysRegular}
-use Rattle.model.proofs.Match.{left}
 use Rattle.model.proofs.Memory.{snoc-length}
 use Rattle.model.proofs.Nested.{Chain, chain}
 use Rattle.model.proofs.Typing.{RowFits, rows-fit}
 use Rattle.model.proofs.Safe.{Held}
-use Rattle.model.proofs.SafeStep.{MoveOk, loopRows, safe-step}
+use Rattle.model.proofs.SafeStep.{MoveOk, going, loopRows, safe-step}
 
 -- a value that is given has the property, and the choices left are numbers
 abbrev pub Given : {A : Type 0} → (A → Type 0) → Out A → Type 0
@@ -142,7 +143,8 @@ any-add x y = keeps-if (leb (x + y) most) (λ _. keeps-give tt) (λ _. keeps-fai
 any-subtract : (x y : ℕ) → Keeps Any (subtract x y)
 any-subtract x y = keeps-if (leb y x) (λ _. keeps-give tt) (λ _. keeps-fail)
 
-any-sum : (op : ℕ → ℕ → Work ℕ) → ((x y : ℕ) → Keeps Any (op x y)) → (w : Ty) {x : Work (Of w)} {y : Work ℕ} → Keeps Any x → Keeps Any y → Keeps Any (sumOrDifference op w x y)
+any-sum : (op : ℕ → ℕ → Work ℕ) → ((x y : ℕ) → Keeps Any (op x y)) → (w : Ty) {x : Work (Of w)} {y : Work ℕ} → Keeps Any x → Keeps Any y
+    → Keeps Any (sumOrDifference op w x y)
 any-sum op h bool x y = keeps-wrong
 any-sum op h uint x y = any-bind x (λ a. any-bind y (λ b. h a b))
 any-sum op h pointer x y = any-bind x (λ p. any-bind y (λ b. any-bind (h (p .place) b) (λ z. keeps-give tt)))
@@ -155,7 +157,8 @@ any-array rs zero = keeps-fail
 any-array rs (suc i) = keeps-if (ltb i (length rs)) (λ _. keeps-give tt) (λ _. keeps-wrong)
 
 any-cell : (ps cells : List ℕ) (r : Array) (i : ℕ) → Keeps Any (cellOf ps cells r i)
-any-cell ps cells r i = keeps-if (ltb i (sizeOf ps r)) (λ _. keeps-if (ltb (r .start + i) (length cells)) (λ _. keeps-give tt) (λ _. keeps-wrong)) (λ _. keeps-wrong)
+any-cell ps cells r i = keeps-if (ltb i (sizeOf ps r)) (λ _. keeps-if (ltb (r .start + i) (length cells)) (λ _. keeps-give tt) (λ _. keeps-wrong))
+    (λ _. keeps-wrong)
 
 any-load : (ps : List ℕ) (rs : List Array) (cells : List ℕ) (p : Ptr) → Keeps Any (load ps rs cells p)
 any-load ps rs cells p = any-bind (any-array rs (p .array)) (λ r. keeps-if (ltb (p .place) (r .len)) (λ _. any-cell ps cells r (p .place)) (λ _. keeps-fail))
@@ -174,7 +177,7 @@ any-present n bool x = keeps-give tt
 any-present n uint x = keeps-give tt
 any-present n pointer x = keeps-if (leb (x .array) n) (λ _. keeps-give tt) (λ _. keeps-wrong)
 
-module _ (ps : List ℕ) (s : Store) where
+module _ (ps : List ℕ) (s : Contents) where
   any-rule : (w : Ty) (k : Node) (a b c : ℕ) {ev : (v : Ty) → ℕ → Work (Of v)} → ((v : Ty) (m : ℕ) → Keeps Any (ev v m)) → Keeps Any (rule ps s w k a b c ev)
   unfolding rule
   any-rule w variable a b c ih = any-bind (any-variable (s .vars) a) (any-ofType w)
@@ -197,12 +200,13 @@ module _ (ps : List ℕ) (s : Store) where
   unfolding evalF
   any-evalF t zero w n = keeps-wrong
   any-evalF t (suc f) w n =
-      any-bind (any-rule w (nodeKind (nodeAt t n .kind)) (nodeAt t n .a) (nodeAt t n .b) (nodeAt t n .c) (λ v m. keeps-if (ltb m n) (λ _. any-evalF t f v m) (λ _. keeps-wrong)))
+      any-bind (any-rule w (nodeKind (nodeAt t n .kind)) (nodeAt t n .a) (nodeAt t n .b) (nodeAt t n .c)
+          (λ v m. keeps-if (ltb m n) (λ _. any-evalF t f v m) (λ _. keeps-wrong)))
       (any-present (length (s .arrays)) w)
 
 any-node : (ps : List ℕ) (t : Table) (s : State) (w : Ty) (n : ℕ) → Keeps Any (node ps t s w n)
 unfolding eval
-any-node ps t s w n = keeps-if (ltb n (t .nodes)) (λ _. any-evalF ps (storeOf s) t (suc n) w n) (λ _. keeps-wrong)
+any-node ps t s w n = keeps-if (ltb n (t .nodes)) (λ _. any-evalF ps (contentsOf s) t (suc n) w n) (λ _. keeps-wrong)
 
 -- ---- rows
 
@@ -223,7 +227,8 @@ module _ (ps : List ℕ) (m : MachineKind) (t : Table) where
   regular-set s R a v l h = record {
     started = R .started;
     classes = λ i k e. elim (ℕ-discrete i a) [
-      | yes q ↦ let g = h (subst (λ (j : ℕ). classed m t j ≡ true) q e) in (g .0, g .1, ap (λ (j : ℕ). getD (set (s .vars) a v) j (Uint 0)) q ∙ getD-set-same (s .vars) a v (Uint 0) l ∙ g .2)
+      | yes q ↦ let g = h (subst (λ (j : ℕ). classed m t j ≡ true) q e) in
+          (g .0, g .1, ap (λ (j : ℕ). getD (set (s .vars) a v) j (Uint 0)) q ∙ getD-set-same (s .vars) a v (Uint 0) l ∙ g .2)
       | no q ↦ let g = R .classes i k e in (g .0, g .1, getD-set-other (s .vars) a i v (Uint 0) q ∙ g .2)
     ];
     few = R .few;
@@ -233,54 +238,55 @@ module _ (ps : List ℕ) (m : MachineKind) (t : Table) where
   keeps-set s R a v h = record { kept = λ cs n. go cs n (ltb a (length (s .vars))) refl }
     where
       go : (cs : List ℕ) → Numbers cs → (b : Bool) → ltb a (length (s .vars)) ≡ b → Given (λ s′. Regular ps m t s′) (setVar s a v cs)
-      go cs n true e = rw e (keeps-if {P = λ s′. Regular ps m t s′} (eqb (sortOf v) (sortOf (getD (s .vars) a (Uint 0)))) (λ _. keeps-give (regular-set s R a v (ltb-true a _ e) h)) (λ _. keeps-wrong) .kept cs n)
+      go cs n true e = rw e (keeps-if {P = λ s′. Regular ps m t s′} (eqb (formOf v) (formOf (getD (s .vars) a (Uint 0))))
+          (λ _. keeps-give (regular-set s R a v (ltb-true a _ e) h)) (λ _. keeps-wrong) .kept cs n)
       go cs n false e = rw e tt
 
   -- other row, cells and arrays
   regular-at : (s : State) → Regular ps m t s → (r : ℕ) (rs : List Array) (cs : List ℕ) → length rs ≤ mostArrays
-      → Regular ps m t (record { row = r; loops = s .loops; vars = s .vars; arrays = rs; cells = cs })
+      → Regular ps m t (goTo (withMemory s rs cs) r)
   regular-at s R r rs cs h = record { started = R .started; classes = R .classes; few = h }
 
-  regular-loops : (s : State) → Regular ps m t s → (r : ℕ) (ls : List Loop) → Started ls
-      → Regular ps m t (record { row = r; loops = ls; vars = s .vars; arrays = s .arrays; cells = s .cells })
-  regular-loops s R r ls h = record { started = h; classes = R .classes; few = R .few }
+  regular-here : (s : State) → Regular ps m t s → (p : Position) → Started (p .loops) → Regular ps m t (withHere s p)
+  regular-here s R p h = record { started = h; classes = R .classes; few = R .few }
 
   keeps-put : (s : State) → Regular ps m t s → (r : Array) (i x : ℕ) → Keeps MoveRegular (put ps s r i x)
   keeps-put s R r i x =
-      keeps-if (ltb i (sizeOf ps r)) (λ _. keeps-if (ltb (r .start + i) (length (s .cells))) (λ _. keeps-give (regular-at s R _ (s .arrays) _ (R .few))) (λ _. keeps-wrong)) (λ _. keeps-wrong)
+      keeps-if (ltb i (sizeOf ps r))
+          (λ _. keeps-if (ltb (r .start + i) (length (s .cells))) (λ _. keeps-give (regular-at s R _ (s .arrays) _ (R .few))) (λ _. keeps-wrong))
+          (λ _. keeps-wrong)
 
   keeps-write : (s : State) → Regular ps m t s → (p : Ptr) (x : ℕ) → Keeps MoveRegular (write ps s p x)
-  keeps-write s R p x = keeps-bind (any-array (s .arrays) (p .array)) (λ r _. keeps-if (ltb (p .place) (r .len)) (λ _. keeps-put s R r (p .place) x) (λ _. keeps-fail))
+  keeps-write s R p x = keeps-bind (any-array (s .arrays) (p .array))
+      (λ r _. keeps-if (ltb (p .place) (r .len)) (λ _. keeps-put s R r (p .place) x) (λ _. keeps-fail))
 
   keeps-reducedWrite : (s : State) → Regular ps m t s → (p : Ptr) (x : ℕ) → Keeps MoveRegular (reducedWrite ps s p x)
   keeps-reducedWrite s R p x =
       keeps-bind (any-array (s .arrays) (p .array))
       (λ r _. keeps-bind (place (r .reduced))
-      (λ v _. keeps-if (ltb v (r .len)) (λ _. keeps-if (keeps ps r v) (λ _. keeps-put s R r (indexOf ps r v) x) (λ _. keeps-give (regular-at s R _ (s .arrays) _ (R .few)))) (λ _. keeps-fail)))
+      (λ v _. keeps-if (ltb v (r .len))
+          (λ _. keeps-if (keeps ps r v) (λ _. keeps-put s R r (indexOf ps r v) x) (λ _. keeps-give (regular-at s R _ (s .arrays) _ (R .few))))
+          (λ _. keeps-fail)))
     where
       place : (b : Bool) → Keeps Any (if b then choose (λ v. eqb (class ps v) (class ps (p .place))) else give (p .place))
       place true = any-choose _
       place false = keeps-give tt
 
   regular-added : (s : State) → Regular ps m t s → (n : ℕ) (f : Bool) → MoveRegular (addArray ps s n f)
-  regular-added s R n f = go (leb mostArrays (length (s .arrays))) refl (leb (used ps (s .arrays) + sizeOf ps (laidNext ps s n f)) (length (s .cells)))
+  regular-added s R n f = go (leb mostArrays (length (s .arrays))) refl (leb (cellsLaid ps (s .arrays) + sizeOf ps (laidNext ps s n f)) (length (s .cells)))
     where
       go : (b : Bool) → leb mostArrays (length (s .arrays)) ≡ b → (d : Bool)
-          → MoveRegular (if b then stop wantOfCells else (if d then to (record {
-            row = suc (s .row);
-            loops = s .loops;
-            vars = s .vars;
-            arrays = s .arrays ++ laidNext ps s n f ∷ [];
-            cells = cleared (used ps (s .arrays)) (sizeOf ps (laidNext ps s n f)) (s .cells);
-          }) else stop wantOfCells))
+          → MoveRegular (if b then stop wantOfCells else (if d then to (past (withArray ps s n f)) else stop wantOfCells))
       go true e d = tt
       go false e true = regular-at s R _ _ _ (omega (arith, leb-false mostArrays (length (s .arrays)) e, snoc-length (s .arrays) (laidNext ps s n f)))
       go false e false = tt
 
-  keeps-enter : (s : State) → Regular ps m t s → (n : ℕ) (v : Value) → Settable (rowAt t n .a) v → (x y : ℕ) {out : Work ℕ} → Keeps Any out → Keeps MoveRegular (enter t s n v x y out)
+  keeps-enter : (s : State) → Regular ps m t s → (n : ℕ) (v : Value) → Settable (rowAt t n .a) v → (x y : ℕ) {out : Work ℕ} → Keeps Any out
+      → Keeps MoveRegular (enter t s n v x y out)
   keeps-enter s R n v h x y {out} o =
       keeps-bind (keeps-set s R (rowAt t n .a) v h)
-      (λ s′ R′. keeps-if (leb x y) (λ e. keeps-give (regular-loops s′ R′ _ _ (leb-true x y e, R′ .started))) (λ _. keeps-bind o (λ q _. keeps-give (regular-loops s′ R′ _ _ (R′ .started)))))
+      (λ s′ R′. keeps-if (leb x y) (λ e. keeps-give (regular-here s′ R′ _ (leb-true x y e, R′ .started)))
+          (λ _. keeps-bind o (λ q _. keeps-give (regular-here s′ R′ _ (R′ .started)))))
 
   keeps-loop : (s : State) → Regular ps m t s → (n : ℕ) (k : Row) → RowFits m t (nodeType t) k (rowAt t n .a) (rowAt t n .b) (rowAt t n .c)
       → (x y : ℕ) {out : Work ℕ} → Keeps Any out → Keeps MoveRegular (loopAt ps t s n k x y out)
@@ -301,13 +307,15 @@ module _ (ps : List ℕ) (m : MachineKind) (t : Table) where
   any-out : (r : ℕ) → Keeps Any (pastEnd t r)
   any-out r = keeps-if (ltb (matchingEnd t r) (t .rows)) (λ _. keeps-give tt) (λ _. keeps-wrong)
 
-  module _ (A : Accepted m t) (s : State) (C : CanHave ps m t s) (R : Regular ps m t s) (h : s .row < t .rows) where
-    keeps-repeat : (ls : List Loop) → loopRows ls ≡ openAt t (s .row) → Started ls → Keeps MoveRegular (repeatLoop ps t s ls)
+  module _ (A : Accepted m t) (s : State) (C : CanHave ps m t s) (R : Regular ps m t s) (h : s .here .row < t .rows) where
+    keeps-repeat : (ls : List Loop) → loopRows ls ≡ openAt t (s .here .row) → Started ls → Keeps MoveRegular (repeatLoop ps t s ls)
     keeps-repeat [] e g = keeps-wrong
     keeps-repeat (l ∷ ls) e g =
-        let c : Chain t (l .row ∷ loopRows ls) = subst (Chain t) (sym e) (chain t (s .row) (omega arith)) in
+        let c : Chain t (l .row ∷ loopRows ls) = subst (Chain t) (sym e) (chain t (s .here .row) (omega arith)) in
         keeps-bind (any-add (l .start) 1)
-        (λ x _. keeps-loop (withLoops s ls) (regular-loops s R _ ls (g .1)) (l .row) (rowKind (rowAt t (l .row) .kind)) (rows-fit m t A (l .row) (c .0)) x (l .end) (keeps-give tt))
+        (λ x _. keeps-loop (withLoops s ls) (regular-here s R (position _ ls) (g .1)) (l .row) (rowKind (rowAt t (l .row) .kind))
+            (rows-fit m t A (l .row) (c .0)) x
+            (l .end) (keeps-give tt))
 
     on : Regular ps m t (past s)
     on = regular-at s R _ (s .arrays) _ (R .few)
@@ -317,39 +325,44 @@ module _ (ps : List ℕ) (m : MachineKind) (t : Table) where
     tested false e = tt
 
     keeps-new : (a n : ℕ) (f : Bool) → classed m t a ≡ false → Keeps MoveRegular (newArray ps s a n f)
-    keeps-new a n f e = keeps-bind (keeps-set s R a (Pointer (suc (length (s .arrays))) 0) (unclassed-settable a (Pointer (suc (length (s .arrays))) 0) e)) (λ s′ R′. keeps-give (regular-added s′ R′ n f))
+    keeps-new a n f e = keeps-bind (keeps-set s R a (Pointer (suc (length (s .arrays))) 0) (unclassed-settable a (Pointer (suc (length (s .arrays))) 0) e))
+        (λ s′ R′. keeps-give (regular-added s′ R′ n f))
 
     keeps-assign : (a : ℕ) (v : Value) → classed m t a ≡ false → Keeps MoveRegular (setVar s a v >>= λ s′. give (to (past s′)))
-    keeps-assign a v e = keeps-bind (keeps-set s R a v (unclassed-settable a v e)) (λ s′ R′. keeps-give (regular-at s′ R′ (suc (s′ .row)) (s′ .arrays) (s′ .cells) (R′ .few)))
+    keeps-assign a v e = keeps-bind (keeps-set s R a v (unclassed-settable a v e))
+        (λ s′ R′. keeps-give (regular-at s′ R′ (suc (s′ .here .row)) (s′ .arrays) (s′ .cells) (R′ .few)))
 
-    keeps-row : (k : Row) → RowFits m t (nodeType t) k (rowAt t (s .row) .a) (rowAt t (s .row) .b) (rowAt t (s .row) .c)
-        → Keeps MoveRegular (rowRule ps t s (s .row) k (rowAt t (s .row) .a) (rowAt t (s .row) .b) (rowAt t (s .row) .c))
+    keeps-row : (k : Row) → RowFits m t (nodeType t) k (rowAt t (s .here .row) .a) (rowAt t (s .here .row) .b) (rowAt t (s .here .row) .c)
+        → Keeps MoveRegular (rowRule ps t s (s .here .row) k (rowAt t (s .here .row) .a) (rowAt t (s .here .row) .b) (rowAt t (s .here .row) .c))
     unfolding rowRule
     keeps-row skip f = keeps-give on
-    keeps-row assign f = keeps-bind (any-node ps t s (typeAt t (rowAt t (s .row) .a)) (rowAt t (s .row) .b)) (λ x _. keeps-assign (rowAt t (s .row) .a) (value (typeAt t (rowAt t (s .row) .a)) x) (f .3))
+    keeps-row assign f = keeps-bind (any-node ps t s (typeAt t (rowAt t (s .here .row) .a)) (rowAt t (s .here .row) .b))
+        (λ x _. keeps-assign (rowAt t (s .here .row) .a) (value (typeAt t (rowAt t (s .here .row) .a)) x) (f .3))
     keeps-row store f = keeps-bind (any-node ps t s pointer _) (λ p _. keeps-bind (any-node ps t s uint _) (λ x _. keeps-write s R p x))
     keeps-row assert f = keeps-bind (any-node ps t s bool _) (λ x _. keeps-give (tested x _))
     keeps-row assume f = keeps-bind (any-node ps t s bool _) (λ x _. keeps-give (tested x _))
     keeps-row array f = keeps-bind (any-node ps t s uint _) (λ l _. keeps-new _ l false (f .4))
-    keeps-row loop f = keeps-bind (any-node ps t s uint _) (λ x _. keeps-bind (any-node ps t s uint _) (λ y _. keeps-loop s R (s .row) loop f x y (any-out (s .row))))
-    keeps-row loopEnd f = keeps-repeat (s .loops) (C .loops) (R .started)
+    keeps-row loop f = keeps-bind (any-node ps t s uint _)
+        (λ x _. keeps-bind (any-node ps t s uint _) (λ y _. keeps-loop s R (s .here .row) loop f x y (any-out (s .here .row))))
+    keeps-row loopEnd f = keeps-repeat (s .here .loops) (C .loops) (R .started)
     keeps-row reducedStore f = keeps-bind (any-node ps t s pointer _) (λ p _. keeps-bind (any-node ps t s uint _) (λ x _. keeps-reducedWrite s R p x))
     keeps-row reducedArray f = keeps-bind (any-node ps t s uint _) (λ l _. keeps-new _ l true (f .4))
-    keeps-row classLoop f = keeps-bind (any-node ps t s uint _) (λ x _. keeps-bind (any-node ps t s uint _) (λ y _. keeps-loop s R (s .row) classLoop f x y (any-out (s .row))))
+    keeps-row classLoop f = keeps-bind (any-node ps t s uint _)
+        (λ x _. keeps-bind (any-node ps t s uint _) (λ y _. keeps-loop s R (s .here .row) classLoop f x y (any-out (s .here .row))))
     keeps-row noRow f = keeps-wrong
 
     pub keeps-step : Keeps MoveRegular (step ps t s)
     unfolding step
-    keeps-step = keeps-row (rowKind (rowAt t (s .row) .kind)) (rows-fit m t A (s .row) h)
+    keeps-step = keeps-row (rowKind (rowAt t (s .here .row) .kind)) (rows-fit m t A (s .here .row) h)
 
   run-regular : Accepted m t → (k n : ℕ) (s : State) → CanHave ps m t s → Regular ps m t s → (cs : List ℕ) → Numbers cs → EndsRegular ps m t (run ps t k n s cs)
   unfolding run
-  run-regular A zero n s C R cs g = go (ltb (s .row) (t .rows))
+  run-regular A zero n s C R cs g = go (finished t s)
     where
-      go : (b : Bool) → EndsRegular ps m t (if b then ended outOfSteps n s cs else ended done n s cs)
-      go true = R
+      go : (b : Bool) → EndsRegular ps m t (if b then ended done n s cs else ended outOfSteps n s cs)
       go false = R
-  run-regular A (suc k) n s C R cs g = go (ltb (s .row) (t .rows)) refl (λ s′ C′ R′ cs′ g′. run-regular A k (suc n) s′ C′ R′ cs′ g′)
+      go true = R
+  run-regular A (suc k) n s C R cs g = go (finished t s) refl (λ s′ C′ R′ cs′ g′. run-regular A k (suc n) s′ C′ R′ cs′ g′)
     where
       follow : (o : Out Move) → Held m (MoveOk m (CanHave ps m t)) cs o → Given MoveRegular o
           → ((s′ : State) → CanHave ps m t s′ → Regular ps m t s′ → (cs′ : List ℕ) → Numbers cs′ → EndsRegular ps m t (run ps t k (suc n) s′ cs′))
@@ -361,11 +374,11 @@ module _ (ps : List ℕ) (m : MachineKind) (t : Table) where
       follow noChoice u v ih = R
       follow stuck u v ih = tt
 
-      go : (b : Bool) → ltb (s .row) (t .rows) ≡ b
+      go : (b : Bool) → finished t s ≡ b
           → ((s′ : State) → CanHave ps m t s′ → Regular ps m t s′ → (cs′ : List ℕ) → Numbers cs′ → EndsRegular ps m t (run ps t k (suc n) s′ cs′))
-          → EndsRegular ps m t (if b then after n s cs (step ps t s cs) (run ps t k (suc n)) else ended done n s cs)
-      go true e ih = follow (step ps t s cs) (safe-step ps m t A s C (ltb-true _ _ e) .held cs) (keeps-step A s C R (ltb-true _ _ e) .kept cs g) ih
-      go false e ih = R
+          → EndsRegular ps m t (if b then ended done n s cs else after n s cs (step ps t s cs) (run ps t k (suc n)))
+      go false e ih = follow (step ps t s cs) (safe-step ps m t A s C (going t s e) .held cs) (keeps-step A s C R (going t s e) .kept cs g) ih
+      go true e ih = R
 
 pub stays-regular : StaysRegular
 stays-regular ps m t A s C R limit choices g = run-regular ps m t A limit 0 s C R choices g

@@ -1,20 +1,29 @@
 -- The theory of the model, which the crates above cite.
+-- what any list of places does to a number, and what is said of two
 pub mod ClassLaws
+pub mod PairLaws
+-- a node without its bound, arrays laid, loops open
 pub mod EvalLaws
-pub mod Match
 pub mod Memory
+pub mod Nested
+pub mod Closed
+-- the kinds of a machine, the reduction, and what the checks give
+pub mod KindsIn
+pub mod ReduceLaws
+pub mod Typing
+pub mod ReducedAccepted
+-- the matching of two runs: what is alike, what links two states, nodes, rows, runs
+pub mod Match
 pub mod Linked
 pub mod Keep
-pub mod Nested
+-- no run is stuck, and a run keeps its state regular
+pub mod Safe
+pub mod SafeStep
+pub mod Kept
 pub mod MatchEval
 pub mod MatchStep
 pub mod MatchRun
+-- the choice writer, demand 3 and the examples
 pub mod WriterLaws
-pub mod ReduceLaws
-pub mod Typing
-pub mod Safe
-pub mod SafeStep
-pub mod ReducedAccepted
 pub mod Demand3Proof
-pub mod Kept
 pub mod ExampleProof

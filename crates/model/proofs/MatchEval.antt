@@ -1,245 +1,333 @@
--- The reduced run works a node out as the plain run does, if it is handed the true numbers.
+-- The second run works a node out as the first does, if it is handed the numbers that only it takes as choices, and the first's choices.
 -- Assumes nothing.
-use mathlib.Core.Path.{_≡_, refl, sym, ap, _∙_}
-use Prim.Native.Nat.{ℕ, zero, suc, _+_, _≤_, _<_}
-use native.Mathlib.Omega.{arith}
-use mathlib.Core.Bool.{Bool, true, false}
-use mathlib.Core.List.{List, [], _∷_, _++_, append-assoc, append-nil}
+use mathlib.Core.Path.{_≡_, refl, sym, ap, _∙_, fun-ext, subst}
+use Prim.Native.Nat.{ℕ, zero, suc, _+_, _<_}
+use mathlib.Core.Bool.{Bool, true, false, false≢true, true≢false}
+use mathlib.Core.List.{List, [], _++_}
 use lib.ListN.{length, getD}
 use lib.Dec.{ltb, leb, eqb}
-use borrow.Author.Tests.{ltb-true, ltb-false, lt-ltb, le-ltb, eq-eqb}
+use borrow.Author.Tests.{leb-true, ltb-true, lt-ltb, eq-eqb}
 use Rattle.lists.specs.If.{if_then_else_}
-use Rattle.model.specs.Class.{class}
-use Rattle.model.specs.Table.{Node, Table, Ty, markedUint, nodeAt, nodeKind}
+use Rattle.model.specs.Class.{class, tracked}
+use Rattle.model.specs.Table.{Node, Table, Ty, markedUint, nodeAt, nodeKind, most}
 use Rattle.model.specs.Table.Ty.{bool, uint, pointer}
-use Rattle.model.specs.Table.Node.{variable, uintConstant, boolConstant, cell, plus, minus, less, atMost, equal, conditional, valid, classVariable, reducedCell, reducedValid, noNode}
-use Rattle.model.specs.Work.{Work, _>>=_}
-use Rattle.model.specs.Work.Out.{gives}
-use Rattle.model.specs.State.{State, Value, most}
+use Rattle.model.specs.Table.Node.{variable, uintConstant, boolConstant, cell, plus, minus, less, atMost, equal, conditional, valid, classVariable}
+use Rattle.model.specs.Table.Node.{reducedCell, reducedValid, noNode}
+use Rattle.model.specs.Work.{Work, _>>=_, choose, fail, give}
+use Rattle.model.specs.State.{Array, MachineKind, State, Value, placesIn}
+use Rattle.model.specs.State.MachineKind.{plain, reduced}
 use Rattle.model.specs.State.Value.{Truth, Uint, Class, Pointer}
-use Rattle.model.specs.Eval.{Of, Ptr, add, asBool, asPointer, asUint, bools, cellOf, compare, evalF, indexOf, isValid, keeps, load, ofType, present, reducedLoad, rule, sizeOf, storeOf, subtract, sumOrDifference, uints, variableOf}
+use Rattle.model.specs.Eval.{Of, Ptr, Contents, add, asBool, asClass, asPointer, asUint, below, bools, compare, evalF, inClass, indexOf, isValid, keeps}
+use Rattle.model.specs.Eval.{load, ofType, present, ptr, reducedLoad, rule, contentsOf, subtract, sumOrDifference, uints, variableOf}
 use Rattle.model.specs.Agree.{SameVariable, arrayAt}
+use Rattle.model.specs.Accepted.{Laid, isReduced}
 use Rattle.model.specs.Writer.{choicesF, choicesRule, given, loadChoices, numberOf}
-use Rattle.model.proofs.Match.{Match, Still, match-bind, match-if, match-last, match-still, match-then, match-wrong, still-bind, still-fail, still-give, still-if, still-wrong}
-use Rattle.model.proofs.Match.Answer.{value, failure, nothing}
+use Rattle.model.proofs.Match.{Match, Plainly, listed, match-bind, match-choose, match-give, match-last, match-told, matches-are, matches-as}
+use Rattle.model.proofs.Match.{matches-either, matches-fail, matches-give, matches-if, matches-wrong}
 use Rattle.model.proofs.Memory.{inside}
-use Rattle.model.proofs.Linked.{Linked}
-use Rattle.model.proofs.Keep.{index-in}
+use Rattle.model.proofs.KindsIn.{PlainNode, cellIn, nodeIn, validIn}
+use Rattle.model.proofs.Linked.{AlsoMarked, Closed, Extra, FitOf, FitValue, Linked, Related, onlySecond}
+use Rattle.model.proofs.Keep.{index-in, kept-also}
 
--- the kind that a node becomes
-abbrev pub reducedNode : Bool → Node → Node
-reducedNode u variable = if u then classVariable else variable
-reducedNode u uintConstant = uintConstant
-reducedNode u boolConstant = boolConstant
-reducedNode u cell = reducedCell
-reducedNode u plus = plus
-reducedNode u minus = minus
-reducedNode u less = less
-reducedNode u atMost = atMost
-reducedNode u equal = equal
-reducedNode u conditional = conditional
-reducedNode u valid = reducedValid
-reducedNode u classVariable = classVariable
-reducedNode u reducedCell = reducedCell
-reducedNode u reducedValid = reducedValid
-reducedNode u noNode = noNode
+-- ---- what the plain machine has, and the reduced one
 
--- a kind that a plain table has
-abbrev pub PlainNode : Node → Type 0
-PlainNode variable = Unit {0}
-PlainNode uintConstant = Unit {0}
-PlainNode boolConstant = Unit {0}
-PlainNode cell = Unit {0}
-PlainNode plus = Unit {0}
-PlainNode minus = Unit {0}
-PlainNode less = Unit {0}
-PlainNode atMost = Unit {0}
-PlainNode equal = Unit {0}
-PlainNode conditional = Unit {0}
-PlainNode valid = Unit {0}
-PlainNode classVariable = ⊥
-PlainNode reducedCell = ⊥
-PlainNode reducedValid = ⊥
-PlainNode noNode = Unit {0}
+pub never-plain : {m : MachineKind} → m ≡ reduced → Plainly m [] → ⊥
+never-plain e h = subst (λ m. Plainly m []) e h
 
-pub still-asUint : (v : Value) → Still (asUint v)
-still-asUint (Truth b) = still-wrong
-still-asUint (Uint n) = still-give n
-still-asUint (Class k) = still-wrong
-still-asUint (Pointer r p) = still-wrong
+pub same-places : {m : MachineKind} → m ≡ reduced → (ps : List ℕ) → placesIn m ps ≡ ps
+same-places e ps = ap (λ m. placesIn m ps) e
 
-pub still-asBool : (v : Value) → Still (asBool v)
-still-asBool (Truth b) = still-give b
-still-asBool (Uint n) = still-wrong
-still-asBool (Class k) = still-wrong
-still-asBool (Pointer r p) = still-wrong
+pub no-places : (m : MachineKind) (ps : List ℕ) → Plainly m [] → placesIn m ps ≡ []
+no-places plain ps h = refl
+no-places reduced ps h = absurd h
 
-pub still-asPointer : (v : Value) → Still (asPointer v)
-still-asPointer (Truth b) = still-wrong
-still-asPointer (Uint n) = still-wrong
-still-asPointer (Class k) = still-wrong
-still-asPointer (Pointer r p) = still-give _
+pub is-plain : (m : MachineKind) → Plainly m [] → m ≡ plain
+is-plain plain h = refl
+is-plain reduced h = absurd h
 
-pub still-ofType : (w : Ty) (v : Value) → Still (ofType w v)
-still-ofType bool v = still-asBool v
-still-ofType uint v = still-asUint v
-still-ofType pointer v = still-asPointer v
+pub unreduced : {m : MachineKind} (b c : Bool) → AlsoMarked m b c → m ≡ plain → b ≡ false
+unreduced true c h e = absurd (false≢true (ap isReduced (sym e ∙ h refl .0)))
+unreduced false c h e = refl
 
-pub still-add : (x y : ℕ) → Still (add x y)
-still-add x y = still-if (leb (x + y) most) (still-give _) still-fail
+-- "With a plain array or none, 28, 29 and 40 act as 19, 26 and 34."
+abbrev pub Flat : List Array → Type 0
+Flat rs = (i : ℕ) → i < length rs → arrayAt rs i .reduced ≡ false
 
-pub still-subtract : (x y : ℕ) → Still (subtract x y)
-still-subtract x y = still-if (leb y x) (still-give _) still-fail
+flat-load : (ps : List ℕ) (rs : List Array) (cells : List ℕ) → Flat rs → load ps rs cells ≡ reducedLoad ps rs cells
+flat-load ps rs cells flat = fun-ext λ p. fun-ext λ cs. at (p .array) (p .place) cs
+  where
+    at : (i q : ℕ) (cs : List ℕ) → load ps rs cells (ptr i q) cs ≡ reducedLoad ps rs cells (ptr i q) cs
+    at zero q cs = refl
+    at (suc i) q cs = go (ltb i (length rs)) refl
+      where
+        go : (d : Bool) → ltb i (length rs) ≡ d → load ps rs cells (ptr (suc i) q) cs ≡ reducedLoad ps rs cells (ptr (suc i) q) cs
+        go true d = simp (d, flat i (ltb-true i _ d))
+        go false d = simp d
 
--- to a user of the type, or of another
-match-uints : (w : Ty) {m r : Work ℕ} {xs : List ℕ} → Match m r xs → Match (uints w m) (uints w r) xs
-match-uints bool x = match-wrong
-match-uints uint x = x
-match-uints pointer x = match-wrong
+module _ (ps : List ℕ) (s : Contents) (w : Ty) (a b c : ℕ) (ev : (v : Ty) → ℕ → Work (Of v)) where
+  cell-acts : (m : MachineKind) → (m ≡ plain → Flat (s .arrays)) → rule ps s w (cellIn m) a b c ev ≡ rule ps s w reducedCell a b c ev
+  unfolding rule
+  cell-acts plain h = ap (λ (l : Ptr → Work ℕ). uints w (ev pointer a >>= l)) (flat-load ps (s .arrays) (s .cells) (h refl))
+  cell-acts reduced h = refl
 
-match-bools : (w : Ty) {m r : Work Bool} {xs : List ℕ} → Match m r xs → Match (bools w m) (bools w r) xs
-match-bools bool x = x
-match-bools uint x = match-wrong
-match-bools pointer x = match-wrong
+  valid-acts : (m : MachineKind) → rule ps s w (validIn m) a b c ev ≡ rule ps s w reducedValid a b c ev
+  unfolding rule
+  valid-acts plain = refl
+  valid-acts reduced = refl
 
-match-sumOrDifference : (op : ℕ → ℕ → Work ℕ) → ((x y : ℕ) → Still (op x y)) → (w : Ty) {m r : Work (Of w)} {n q : Work ℕ} {xs ys : List ℕ} → Match m r xs → Match n q ys
-    → Match (sumOrDifference op w m n) (sumOrDifference op w r q) (xs ++ given (m []) (λ x. ys))
-match-sumOrDifference op h bool x y = match-wrong
-match-sumOrDifference op h uint x y = match-bind x (λ a. match-then y (λ b. h a b))
-match-sumOrDifference op h pointer x y = match-bind x (λ p. match-then y (λ b. still-bind (h (p .place) b) (λ z. still-give _)))
+-- ---- what is alike on both sides
 
-match-compare : (test : ℕ → ℕ → Bool) {m r n q : Work ℕ} {xs ys : List ℕ} → Match m r xs → Match n q ys → Match (compare test m n) (compare test r q) (xs ++ given (m []) (λ x. ys))
-match-compare test x y = match-bind x (λ a. match-then y (λ b. still-give _))
+module _ {m : MachineKind} {F : ℕ → Type 0} where
+  match-asUint : (v : Value) → FitValue F v → Match m F F (asUint v) (asUint v) []
+  match-asUint (Truth b) h = matches-wrong
+  match-asUint (Uint n) h = match-give h
+  match-asUint (Class k) h = matches-wrong
+  match-asUint (Pointer r p) h = matches-wrong
 
-module _ (ps : List ℕ) (t : Table) (ks : List Bool) (p r : State) (A : Linked ps t ks p r) where
-  match-variable : (w : Ty) (a b c : ℕ) (ev : (v : Ty) → ℕ → Work (Of v))
-      → Match (variableOf (p .vars) a >>= ofType w) (rule ps (storeOf r) w (if markedUint t a then classVariable else variable) a b c ev)
+  match-asBool : (v : Value) → FitValue F v → Match m F (λ b. Unit {0}) (asBool v) (asBool v) []
+  match-asBool (Truth b) h = match-give h
+  match-asBool (Uint n) h = matches-wrong
+  match-asBool (Class k) h = matches-wrong
+  match-asBool (Pointer r p) h = matches-wrong
+
+  match-asPointer : (v : Value) → FitValue F v → Match m F (λ p. F (p .place)) (asPointer v) (asPointer v) []
+  match-asPointer (Truth b) h = matches-wrong
+  match-asPointer (Uint n) h = matches-wrong
+  match-asPointer (Class k) h = matches-wrong
+  match-asPointer (Pointer r p) h = match-give h
+
+  match-asClass : (v : Value) → FitValue F v → Match m F (λ k. Unit {0}) (asClass v) (asClass v) []
+  match-asClass (Truth b) h = matches-wrong
+  match-asClass (Uint n) h = matches-wrong
+  match-asClass (Class k) h = match-give h
+  match-asClass (Pointer r p) h = matches-wrong
+
+  match-ofType : (w : Ty) (v : Value) → FitValue F v → Match m F (FitOf F w) (ofType w v) (ofType w v) []
+  match-ofType bool v h = match-asBool v h
+  match-ofType uint v h = match-asUint v h
+  match-ofType pointer v h = match-asPointer v h
+
+  pub match-add : {t : Table} → Closed F t → (x y : ℕ) → Match m F F (add x y) (add x y) []
+  match-add C x y = go (leb (x + y) most) refl
+    where
+      go : (b : Bool) → leb (x + y) most ≡ b → Match m F F (if b then give (x + y) else fail) (if b then give (x + y) else fail) []
+      go true e = match-give (C .sum x y (leb-true (x + y) most e))
+      go false e = matches-fail
+
+  match-subtract : {t : Table} → Closed F t → (x y : ℕ) → F x → Match m F F (subtract x y) (subtract x y) []
+  match-subtract C x y h = matches-either (leb y x) (match-give (C .difference x y h)) matches-fail
+
+  -- to a user of the type, or of another
+  match-uints : (w : Ty) {f r : Work ℕ} {xs : List ℕ} → Match m F F f r xs → Match m F (FitOf F w) (uints w f) (uints w r) xs
+  match-uints bool x = matches-wrong
+  match-uints uint x = x
+  match-uints pointer x = matches-wrong
+
+  match-bools : (w : Ty) {f r : Work Bool} {xs : List ℕ} → Match m F (λ b. Unit {0}) f r xs → Match m F (FitOf F w) (bools w f) (bools w r) xs
+  match-bools bool x = x
+  match-bools uint x = matches-wrong
+  match-bools pointer x = matches-wrong
+
+  match-sumOrDifference : (op : ℕ → ℕ → Work ℕ) → ((x y : ℕ) → F x → Match m F F (op x y) (op x y) [])
+      → (w : Ty) {f r : Work (Of w)} {g q : Work ℕ} {xs ys : List ℕ} → Match m F (FitOf F w) f r xs → Match m F F g q ys
+      → Match m F (FitOf F w) (sumOrDifference op w f g) (sumOrDifference op w r q) (xs ++ given (f []) (λ x. ys))
+  match-sumOrDifference op h bool x y = matches-wrong
+  match-sumOrDifference op h uint x y = match-bind x (λ a k. match-last y (λ b _. h a b k))
+  match-sumOrDifference op h pointer x y = match-bind x (λ p k. match-last y (λ b _. match-last (h (p .place) b k) (λ z l. match-give l)))
+
+  match-compare : (test : ℕ → ℕ → Bool) {f r g q : Work ℕ} {xs ys : List ℕ} → Match m F F f r xs → Match m F F g q ys
+      → Match m F (λ b. Unit {0}) (compare test f g) (compare test r q) (xs ++ given (f []) (λ x. ys))
+  match-compare test x y = match-bind x (λ a _. match-last y (λ b _. match-give tt))
+
+-- ---- variables and cells
+
+-- a cell of an array that is there, at a place below its length
+load-in : (ps : List ℕ) {rs : List Array} {cells : List ℕ} → Laid ps rs cells → (i q : ℕ) → ltb i (length rs) ≡ true → ltb q (arrayAt rs i .len) ≡ true
+    → (cs : List ℕ)
+    → reducedLoad ps rs cells (ptr (suc i) q) cs
+    ≡ (if_then_else_ {A = Work ℕ} (keeps ps (arrayAt rs i) q) (give (getD cells (arrayAt rs i .start + indexOf ps (arrayAt rs i) q) 0)) (choose (λ v. true))) cs
+load-in ps {rs} {cells} L i q d e cs = go (keeps ps (arrayAt rs i) q) refl
+  where
+    go : (g : Bool) → keeps ps (arrayAt rs i) q ≡ g
+        → reducedLoad ps rs cells (ptr (suc i) q) cs
+            ≡ (if_then_else_ {A = Work ℕ} g (give (getD cells (arrayAt rs i .start + indexOf ps (arrayAt rs i) q) 0)) (choose (λ v. true))) cs
+    go true g =
+        let l = index-in ps (arrayAt rs i .reduced) _ q (ltb-true q _ e) g in
+        simp (d, e, g, lt-ltb _ _ l, lt-ltb _ _ (inside ps L i (ltb-true i _ d) _ l))
+    go false g = simp (d, e, g)
+
+if-same : {A : Type 0} (b : Bool) {x : A} → x ≡ (if b then x else x)
+if-same true = refl
+if-same false = refl
+
+module _ {m : MachineKind} {F : ℕ → Type 0} {ps : List ℕ} {extra : Extra} {us : ℕ → Bool} {t : Table} {ks : List Bool} {p r : State}
+    (C : Closed F t) (uints-also : (i : ℕ) → AlsoMarked m (us i) (markedUint t i)) (A : Linked m F ps extra (onlySecond us (markedUint t)) ks p r) where
+  abbrev fs : List ℕ
+  fs = placesIn m ps
+
+  same-variable : (a : ℕ) → onlySecond us (markedUint t) a ≡ false → Match m F (FitValue F) (variableOf (p .vars) a) (variableOf (r .vars) a) []
+  same-variable a o = go (ltb a (length (p .vars))) refl
+    where
+      go : (d : Bool) → ltb a (length (p .vars)) ≡ d → Match m F (FitValue F) (variableOf (p .vars) a) (variableOf (r .vars) a) []
+      go true d = matches-as (λ cs. simp d) (λ cs. simp (A .vars .number, d)) (matches-give (rw o at (A .vars .variable a (ltb-true a _ d)), A .fitVars a))
+      go false d = matches-as (λ cs. simp d) (λ cs. simp (A .vars .number, d)) matches-wrong
+
+  match-variable : (w : Ty) (a b c : ℕ) (ev ev′ : (v : Ty) → ℕ → Work (Of v))
+      → Match m F (FitOf F w) (rule fs (contentsOf p) w (if us a then classVariable else variable) a b c ev)
+          (rule ps (contentsOf r) w (if markedUint t a then classVariable else variable) a b c ev′)
       (if markedUint t a then given (variableOf (p .vars) a []) numberOf else [])
   unfolding rule
-  match-variable w a b c ev = go w (markedUint t a) refl (ltb a (length (p .vars))) refl
+  match-variable w a b c ev ev′ = go (us a) refl (markedUint t a) refl
     where
-      classed : (w : Ty) → ltb a (length (p .vars)) ≡ true → (n : ℕ) → getD (p .vars) a (Uint 0) ≡ Uint n → getD (r .vars) a (Uint 0) ≡ Class (class ps n)
-          → Match (variableOf (p .vars) a >>= ofType w) (rule ps (storeOf r) w classVariable a b c ev) (given (variableOf (p .vars) a []) numberOf)
-      classed bool f n v u = record { answer = nothing; plain = λ cs. simp (f, v); matched = λ cs. refl }
-      classed uint f n v u = record {
-        answer = value n;
-        plain = λ cs. simp (f, v);
-        matched = λ cs. simp (f, A .vars .number, v, u, eq-eqb (class ps n) (class ps n) refl);
-      }
-      classed pointer f n v u = record { answer = nothing; plain = λ cs. simp (f, v); matched = λ cs. refl }
+      told : (w : Ty) (n : ℕ) → F n → ltb a (length (p .vars)) ≡ true → getD (p .vars) a (Uint 0) ≡ Uint n → getD (r .vars) a (Uint 0) ≡ Class (class ps n)
+          → Match m F (FitOf F w) (variableOf (p .vars) a >>= ofType w) (uints w (inClass ps (r .vars) a)) (given (variableOf (p .vars) a []) numberOf)
+      told bool n k d v u = matches-as (λ cs. simp (d, v)) (λ cs. refl) matches-wrong
+      told uint n k d v u =
+          matches-as (λ cs. simp (d, v)) (λ cs. simp (A .vars .number, d, u))
+          (listed (λ h. simp (d, v)) (match-told (λ x. eqb (class ps x) (class ps n)) n (eq-eqb (class ps n) (class ps n) refl) k))
+      told pointer n k d v u = matches-as (λ cs. simp (d, v)) (λ cs. refl) matches-wrong
 
-      same : (w : Ty) → length (r .vars) ≡ length (p .vars) → getD (r .vars) a (Uint 0) ≡ getD (p .vars) a (Uint 0)
-          → Match (variableOf (p .vars) a >>= ofType w) (variableOf (r .vars) a >>= ofType w) []
-      same w e f = rw (e, f) (match-still (still-bind (still-if (ltb a (length (p .vars))) (still-give _) still-wrong) (still-ofType w)))
+      missing : (w : Ty) → ltb a (length (p .vars)) ≡ false
+          → Match m F (FitOf F w) (variableOf (p .vars) a >>= ofType w) (uints w (inClass ps (r .vars) a)) (given (variableOf (p .vars) a []) numberOf)
+      missing bool d = matches-as (λ cs. simp d) (λ cs. refl) matches-wrong
+      missing uint d = matches-as (λ cs. simp d) (λ cs. simp (A .vars .number, d)) matches-wrong
+      missing pointer d = matches-as (λ cs. simp d) (λ cs. refl) matches-wrong
 
-      go : (w : Ty) (m : Bool) → markedUint t a ≡ m → (d : Bool) → ltb a (length (p .vars)) ≡ d
-          → Match (variableOf (p .vars) a >>= ofType w) (rule ps (storeOf r) w (if m then classVariable else variable) a b c ev) (if m then given (variableOf (p .vars) a []) numberOf else [])
-      go w true e true f =
-          let s : SameVariable ps true (getD (p .vars) a (Uint 0)) (getD (r .vars) a (Uint 0)) = rw e at (A .vars .variable a (ltb-true a _ f)) in
-          classed w f (s .0) (s .1) (s .2)
-      go bool true e false f = record { answer = nothing; plain = λ cs. simp f; matched = λ cs. refl }
-      go uint true e false f = record { answer = nothing; plain = λ cs. simp f; matched = λ cs. simp (A .vars .number, f) }
-      go pointer true e false f = record { answer = nothing; plain = λ cs. simp f; matched = λ cs. refl }
-      go w false e true f = same w (A .vars .number) (rw e at (A .vars .variable a (ltb-true a _ f)))
-      go w false e false f = record { answer = nothing; plain = λ cs. simp f; matched = λ cs. simp (A .vars .number, f) }
+      only-second : (w : Ty) (d : Bool) → ltb a (length (p .vars)) ≡ d → onlySecond us (markedUint t) a ≡ true
+          → Match m F (FitOf F w) (variableOf (p .vars) a >>= ofType w) (uints w (inClass ps (r .vars) a)) (given (variableOf (p .vars) a []) numberOf)
+      only-second w true d o =
+          let s : SameVariable ps true (getD (p .vars) a (Uint 0)) (getD (r .vars) a (Uint 0)) = rw o at (A .vars .variable a (ltb-true a _ d)) in
+          told w (s .0) (subst (FitValue F) (s .1) (A .fitVars a)) d (s .1) (s .2)
+      only-second w false d o = missing w d
 
-  -- an array of either run, by its number
-  module _ (i : ℕ) (d : ltb i (length (p .arrays)) ≡ true) where
-    there : i < length (p .arrays)
-    there = ltb-true i _ d
+      both : m ≡ reduced → onlySecond us (markedUint t) a ≡ false
+          → Match m F (FitOf F w) (uints w (inClass fs (p .vars) a)) (uints w (inClass ps (r .vars) a)) (given (variableOf (p .vars) a []) numberOf)
+      both e o =
+          match-uints w
+          (listed (λ h. absurd (never-plain e h))
+          (match-bind (match-last (same-variable a o) match-asClass)
+          (λ k _. subst (λ qs. Match m F F (choose (λ x. eqb (class qs x) k)) (choose (λ x. eqb (class ps x) k)) []) (sym (same-places e ps))
+              (match-choose (never-plain e) (λ x. eqb (class ps x) k)))))
 
-    plain-cell : (j : ℕ) → j < arrayAt (p .arrays) i .len → (cs : List ℕ)
-        → cellOf [] (p .cells) (arrayAt (p .arrays) i) j cs ≡ gives (getD (p .cells) (arrayAt (p .arrays) i .start + j) 0) cs
-    plain-cell j k cs =
-        let l : j < sizeOf [] (arrayAt (p .arrays) i) = simp (A .memory .plain i there) k in
-        simp (lt-ltb _ _ l, lt-ltb _ _ (inside [] (A .memory .laidPlain) i there j l))
+      go : (f : Bool) → us a ≡ f → (g : Bool) → markedUint t a ≡ g
+          → Match m F (FitOf F w) (rule fs (contentsOf p) w (if f then classVariable else variable) a b c ev)
+              (rule ps (contentsOf r) w (if g then classVariable else variable) a b c ev′)
+          (if g then given (variableOf (p .vars) a []) numberOf else [])
+      go false f false g = match-last (same-variable a (simp (f, g))) (match-ofType w)
+      go false f true g = only-second w (ltb a (length (p .vars))) refl (simp (f, g))
+      go true f false g = absurd (false≢true (sym g ∙ uints-also a f .1))
+      go true f true g = both (uints-also a f .0) (simp f)
 
-    reduced-cell : (j : ℕ) → j < arrayAt (p .arrays) i .len → keeps ps (arrayAt (r .arrays) i) j ≡ true → (cs : List ℕ)
-        → cellOf ps (r .cells) (arrayAt (r .arrays) i) (indexOf ps (arrayAt (r .arrays) i) j) cs ≡ gives (getD (p .cells) (arrayAt (p .arrays) i .start + j) 0) cs
-    reduced-cell j k g cs =
-        let l : indexOf ps (arrayAt (r .arrays) i) j < sizeOf ps (arrayAt (r .arrays) i) = index-in ps (arrayAt (r .arrays) i .reduced) _ j (rw (A .memory .len i there) k) g in
-        simp (lt-ltb _ _ l, lt-ltb _ _ (inside ps (A .memory .laidReduced) i (omega (arith, A .memory .number, there)) _ l), A .memory .equal i there j k g)
+  pub first-flat : m ≡ plain → Flat (p .arrays)
+  first-flat e i h = unreduced (arrayAt (p .arrays) i .reduced) (arrayAt (r .arrays) i .reduced) (A .memory .also i h) e
 
-  match-load′ : (i q : ℕ) → Match (load [] (p .arrays) (p .cells) (record { array = i; place = q })) (reducedLoad ps (r .arrays) (r .cells) (record { array = i; place = q })) (loadChoices ps t ks p (record { array = i; place = q }))
-  match-load′ zero q = record { answer = failure; plain = λ cs. refl; matched = λ cs. refl }
-  match-load′ (suc i) q = go (ltb i (length (p .arrays))) refl (ltb q (arrayAt (p .arrays) i .len)) refl (keeps ps (arrayAt (r .arrays) i) q) refl
+  match-load′ : (i q : ℕ)
+      → Match m F F (reducedLoad fs (p .arrays) (p .cells) (ptr i q)) (reducedLoad ps (r .arrays) (r .cells) (ptr i q)) (loadChoices ps t ks p (ptr i q))
+  match-load′ zero q = matches-fail
+  match-load′ (suc i) q = go (ltb i (length (p .arrays))) refl (ltb q (arrayAt (p .arrays) i .len)) refl
     where
-      go : (d : Bool) → ltb i (length (p .arrays)) ≡ d → (e : Bool) → ltb q (arrayAt (p .arrays) i .len) ≡ e → (g : Bool) → keeps ps (arrayAt (r .arrays) i) q ≡ g
-          → Match (load [] (p .arrays) (p .cells) (record { array = suc i; place = q })) (reducedLoad ps (r .arrays) (r .cells) (record { array = suc i; place = q })) (loadChoices ps t ks p (record { array = suc i; place = q }))
-      go false d e e′ g g′ = record { answer = nothing; plain = λ cs. simp d; matched = λ cs. simp (A .memory .number, d) }
-      go true d false e true g = record {
-        answer = failure;
-        plain = λ cs. simp (d, e);
-        matched = λ cs. simp (A .memory .flag i (there i d), g, A .memory .number, d, A .memory .len i (there i d), e);
-      }
-      go true d false e false g = record {
-        answer = failure;
-        plain = λ cs. simp (d, e);
-        matched = λ cs. simp (A .memory .flag i (there i d), g, A .memory .number, d, A .memory .len i (there i d), e);
-      }
-      go true d true e true g = record {
-        answer = value (getD (p .cells) (arrayAt (p .arrays) i .start + q) 0);
-        plain = λ cs. simp (d, e) (plain-cell i d q (ltb-true q _ e) cs);
-        matched = λ cs. simp (A .memory .flag i (there i d), g, A .memory .number, d, A .memory .len i (there i d), e) (simp (A .memory .len i (there i d)) at (reduced-cell i d q (ltb-true q _ e) g cs));
-      }
-      go true d true e false g = record {
-        answer = value (getD (p .cells) (arrayAt (p .arrays) i .start + q) 0);
-        plain = λ cs. simp (d, e) (plain-cell i d q (ltb-true q _ e) cs);
-        matched = λ cs. simp (A .memory .flag i (there i d), g, A .memory .number, d, A .memory .len i (there i d), e) (simp (plain-cell i d q (ltb-true q _ e) []));
-      }
+      x : ℕ
+      x = getD (p .cells) (arrayAt (p .arrays) i .start + indexOf fs (arrayAt (p .arrays) i) q) 0
 
-  match-load : (x : Ptr) → Match (load [] (p .arrays) (p .cells) x) (reducedLoad ps (r .arrays) (r .cells) x) (loadChoices ps t ks p x)
-  match-load x = match-load′ (x .array) (x .place)
+      not-kept : m ≡ plain → keeps fs (arrayAt (p .arrays) i) q ≡ false → i < length (p .arrays) → ⊥
+      not-kept e f h = true≢false (simp (first-flat e i h) at f)
 
-  match-valid : (i q : ℕ) → Match (isValid (p .arrays) i q) (isValid (r .arrays) i q) []
-  match-valid zero q = match-still (still-give _)
+      read : i < length (p .arrays) → q < arrayAt (p .arrays) i .len → (f : Bool) → keeps fs (arrayAt (p .arrays) i) q ≡ f → (g : Bool)
+          → keeps ps (arrayAt (r .arrays) i) q ≡ g
+          → (Plainly m [] → load [] (p .arrays) (p .cells) (ptr (suc i) q) [] ≡ (if_then_else_ {A = Work ℕ} f (give x) (choose (λ v. true))) [])
+          → Match m F F (if f then give x else choose (λ v. true))
+              (if g then give (getD (r .cells) (arrayAt (r .arrays) i .start + indexOf ps (arrayAt (r .arrays) i) q) 0) else choose (λ v. true))
+              (loadChoices ps t ks p (ptr (suc i) q))
+      read h k true f true g w = listed (λ _. simp (A .memory .flag i h, g)) (matches-give (A .memory .equal i h q k g, A .fitCells _))
+      read h k true f false g w = listed (λ z. simp (A .memory .flag i h, g, w z)) (match-told (λ v. true) x refl (A .fitCells _))
+      read h k false f true g w =
+          absurd (false≢true (sym f ∙ kept-also m ps (arrayAt (p .arrays) i .reduced) (arrayAt (r .arrays) i .reduced) q (A .memory .also i h) g))
+      read h k false f false g w = match-choose (λ z. not-kept (is-plain m z) f h) (λ v. true)
+
+      go : (d : Bool) → ltb i (length (p .arrays)) ≡ d → (e : Bool) → ltb q (arrayAt (p .arrays) i .len) ≡ e
+          → Match m F F (reducedLoad fs (p .arrays) (p .cells) (ptr (suc i) q)) (reducedLoad ps (r .arrays) (r .cells) (ptr (suc i) q))
+              (loadChoices ps t ks p (ptr (suc i) q))
+      go false d e e′ = matches-as (λ cs. simp d) (λ cs. simp (A .memory .number, d)) matches-wrong
+      go true d false e =
+          matches-as (λ cs. simp (d, e)) (λ cs. simp (A .memory .number, d, A .memory .len i (ltb-true i _ d), e))
+              (listed (λ h. simp (d, e) (if-same (if getD ks i false then tracked ps q else true))) matches-fail)
+      go true d true e =
+          matches-as (load-in fs (A .memory .laidFirst) i q d e)
+              (load-in ps (A .memory .laidSecond) i q (rw (A .memory .number) d) (rw (A .memory .len i (ltb-true i _ d)) e))
+          (read (ltb-true i _ d) (ltb-true q _ e) (keeps fs (arrayAt (p .arrays) i) q) refl (keeps ps (arrayAt (r .arrays) i) q) refl
+          (λ z. ap (λ (l : Ptr → Work ℕ). l (ptr (suc i) q) []) (flat-load [] (p .arrays) (p .cells) (first-flat (is-plain m z)))
+          ∙ ap (λ (qs : List ℕ). reducedLoad qs (p .arrays) (p .cells) (ptr (suc i) q) []) (sym (no-places m ps z))
+          ∙ load-in fs (A .memory .laidFirst) i q d e []))
+
+  match-load : (x : Ptr) → F (x .place)
+      → Match m F F (reducedLoad fs (p .arrays) (p .cells) x) (reducedLoad ps (r .arrays) (r .cells) x) (loadChoices ps t ks p x)
+  match-load x _ = match-load′ (x .array) (x .place)
+
+  match-valid : (i q : ℕ) → Match m F (λ b. Unit {0}) (isValid (p .arrays) i q) (isValid (r .arrays) i q) []
+  match-valid zero q = match-give tt
   match-valid (suc i) q = go (ltb i (length (p .arrays))) refl
     where
-      go : (d : Bool) → ltb i (length (p .arrays)) ≡ d → Match (isValid (p .arrays) (suc i) q) (isValid (r .arrays) (suc i) q) []
-      go true e = record {
-        answer = value (ltb q (arrayAt (p .arrays) i .len));
-        plain = λ cs. simp e;
-        matched = λ cs. simp (A .memory .number, e, A .memory .len i (ltb-true i _ e));
-      }
-      go false e = record { answer = nothing; plain = λ cs. simp e; matched = λ cs. simp (A .memory .number, e) }
+      go : (d : Bool) → ltb i (length (p .arrays)) ≡ d → Match m F (λ b. Unit {0}) (isValid (p .arrays) (suc i) q) (isValid (r .arrays) (suc i) q) []
+      go true d = matches-as (λ cs. simp d) (λ cs. simp (A .memory .number, d, A .memory .len i (ltb-true i _ d)))
+          (match-give {a = ltb q (arrayAt (p .arrays) i .len)} tt)
+      go false d = matches-as (λ cs. simp d) (λ cs. simp (A .memory .number, d)) matches-wrong
 
-  match-present : (w : Ty) (v : Of w) → Match (present (length (p .arrays)) w v) (present (length (r .arrays)) w v) []
-  match-present bool v = match-still (still-give _)
-  match-present uint v = match-still (still-give _)
-  match-present pointer v = rw (A .memory .number) (match-still (still-if (leb (v .array) (length (p .arrays))) (still-give _) still-wrong))
+  match-present : (w : Ty) (v : Of w) → FitOf F w v → Match m F (FitOf F w) (present (length (p .arrays)) w v) (present (length (r .arrays)) w v) []
+  match-present bool v h = match-give h
+  match-present uint v h = match-give h
+  match-present pointer v h = rw (A .memory .number) (matches-either (leb (v .array) (length (p .arrays))) (match-give h) matches-wrong)
 
-  match-rule : (w : Ty) (k : Node) → PlainNode k → (a b c : ℕ) {ev ev′ : (v : Ty) → ℕ → Work (Of v)} {choicesOf : Ty → ℕ → List ℕ} → ((v : Ty) (m : ℕ) → Match (ev v m) (ev′ v m) (choicesOf v m))
-      → Match (rule [] (storeOf p) w k a b c ev) (rule ps (storeOf r) w (reducedNode (markedUint t a) k) a b c ev′) (choicesRule ps t ks p w k a b c ev choicesOf)
+  match-rule : (w : Ty) (k : Node) → PlainNode k → (a b c : ℕ) → F a → {ev ev′ : (v : Ty) → ℕ → Work (Of v)} {choicesOf : Ty → ℕ → List ℕ}
+      → ((v : Ty) (n : ℕ) → Match m F (FitOf F v) (ev v n) (ev′ v n) (choicesOf v n))
+      → Match m F (FitOf F w) (rule fs (contentsOf p) w (nodeIn m (us a) k) a b c ev) (rule ps (contentsOf r) w (nodeIn reduced (markedUint t a) k) a b c ev′)
+          (choicesRule ps t ks p w k a b c ev choicesOf)
   unfolding rule choicesRule
-  match-rule w variable h a b c ih = match-variable w a b c _
-  match-rule w uintConstant h a b c ih = match-uints w (match-still (still-give _))
-  match-rule w boolConstant h a b c ih = match-bools w (match-still (still-give _))
-  match-rule w cell h a b c ih = match-uints w (match-bind (ih pointer a) match-load)
-  match-rule w plus h a b c ih = match-sumOrDifference add still-add w (ih w a) (ih uint b)
-  match-rule w minus h a b c ih = match-sumOrDifference subtract still-subtract w (ih w a) (ih uint b)
-  match-rule w less h a b c ih = match-bools w (match-compare ltb (ih uint a) (ih uint b))
-  match-rule w atMost h a b c ih = match-bools w (match-compare leb (ih uint a) (ih uint b))
-  match-rule w equal h a b c ih = match-bools w (match-compare eqb (ih uint a) (ih uint b))
-  match-rule w conditional h a b c ih = match-bind (ih bool a) (λ x. match-if x (ih w b) (ih w c))
-  match-rule w valid h a b c ih = match-bools w (match-last (ih pointer a) (λ x. match-valid (x .array) (x .place)))
-  match-rule w classVariable h a b c ih = absurd h
-  match-rule w reducedCell h a b c ih = absurd h
-  match-rule w reducedValid h a b c ih = absurd h
-  match-rule w noNode h a b c ih = match-still still-wrong
+  match-rule w variable h a b c k ih = match-variable w a b c _ _
+  match-rule w uintConstant h a b c k ih = match-uints w (match-give k)
+  match-rule w boolConstant h a b c k ih = match-bools w (match-give tt)
+  match-rule w cell h a b c k {ev} ih =
+      matches-are (cell-acts fs (contentsOf p) w a b c ev m first-flat) refl (match-uints w (match-bind (ih pointer a) match-load))
+  match-rule w plus h a b c k ih = match-sumOrDifference add (λ x y _. match-add C x y) w (ih w a) (ih uint b)
+  match-rule w minus h a b c k ih = match-sumOrDifference subtract (match-subtract C) w (ih w a) (ih uint b)
+  match-rule w less h a b c k ih = match-bools w (match-compare ltb (ih uint a) (ih uint b))
+  match-rule w atMost h a b c k ih = match-bools w (match-compare leb (ih uint a) (ih uint b))
+  match-rule w equal h a b c k ih = match-bools w (match-compare eqb (ih uint a) (ih uint b))
+  match-rule w conditional h a b c k ih = match-bind (ih bool a) (λ x _. matches-if x (ih w b) (ih w c))
+  match-rule w valid h a b c k {ev} ih =
+      matches-are (valid-acts fs (contentsOf p) w a b c ev m) refl (match-bools w (match-last (ih pointer a) (λ x _. match-valid (x .array) (x .place))))
+  match-rule w classVariable h a b c k ih = absurd h
+  match-rule w reducedCell h a b c k ih = absurd h
+  match-rule w reducedValid h a b c k ih = absurd h
+  match-rule w noNode h a b c k ih = matches-wrong
 
--- u is t reduced, by its nodes
-pub record Reduces (t u : Table) : Type 0 where
-  pub plain : (n : ℕ) → PlainNode (nodeKind (nodeAt t n .kind))
-  pub kind : (n : ℕ) → nodeKind (nodeAt u n .kind) ≡ reducedNode (markedUint t (nodeAt t n .a)) (nodeKind (nodeAt t n .kind))
-  pub a : (n : ℕ) → nodeAt u n .a ≡ nodeAt t n .a
-  pub b : (n : ℕ) → nodeAt u n .b ≡ nodeAt t n .b
-  pub c : (n : ℕ) → nodeAt u n .c ≡ nodeAt t n .c
+module _ {m : MachineKind} {F : ℕ → Type 0} {ps : List ℕ} {extra : Extra} {us bs : ℕ → Bool} {t v u : Table}
+    (R : Related m F us bs t v u) {ks : List Bool} {p r : State} (A : Linked m F ps extra (onlySecond us (markedUint t)) ks p r) where
+  plain-eval : (f : ℕ) → Plainly m [] → evalF (placesIn m ps) (contentsOf p) v f ≡ evalF [] (contentsOf p) t f
+  plain-eval f h = ap (λ qs. evalF qs (contentsOf p) v f) (no-places m ps h) ∙ ap (λ s. evalF [] (contentsOf p) s f) (R .itself h)
 
-module _ (ps : List ℕ) (t u : Table) (R : Reduces t u) (ks : List Bool) (p r : State) (A : Linked ps t ks p r) where
-  pub match-evalF : (f : ℕ) (w : Ty) (n : ℕ) → Match (evalF [] (storeOf p) t f w n) (evalF ps (storeOf r) u f w n) (choicesF ps t ks p f w n)
+  -- a node by its rule, if its operands match
+  match-ruled : (w : Ty) (n : ℕ) (ev ev′ : (v : Ty) → ℕ → Work (Of v)) (choicesOf : Ty → ℕ → List ℕ)
+      → ((v : Ty) (n : ℕ) → Match m F (FitOf F v) (ev v n) (ev′ v n) (choicesOf v n))
+      → Match m F (FitOf F w)
+      (rule (placesIn m ps) (contentsOf p) w (nodeKind (nodeAt v n .kind)) (nodeAt v n .a) (nodeAt v n .b) (nodeAt v n .c) ev
+      >>= present (length (p .arrays)) w)
+      (rule ps (contentsOf r) w (nodeKind (nodeAt u n .kind)) (nodeAt u n .a) (nodeAt u n .b) (nodeAt u n .c) ev′
+      >>= present (length (r .arrays)) w)
+      (choicesRule ps t ks p w (nodeKind (nodeAt t n .kind)) (nodeAt t n .a) (nodeAt t n .b) (nodeAt t n .c) ev choicesOf)
+  match-ruled w n ev ev′ choicesOf ih =
+      rw (R .first .nodes .kind n, R .first .nodes .a n, R .first .nodes .b n, R .first .nodes .c n)
+      (rw (R .second .nodes .kind n, R .second .nodes .a n, R .second .nodes .b n, R .second .nodes .c n)
+      (match-last (match-rule (R .closed) (R .uints) A w (nodeKind (nodeAt t n .kind)) (R .kinds .node n) (nodeAt t n .a) (nodeAt t n .b) (nodeAt t n .c)
+          (R .closed .constant n) ih)
+      (match-present (R .closed) (R .uints) A w)))
+
+  pub match-evalF : (f : ℕ) (w : Ty) (n : ℕ)
+      → Match m F (FitOf F w) (evalF (placesIn m ps) (contentsOf p) v f w n) (evalF ps (contentsOf r) u f w n) (choicesF ps t ks p f w n)
   unfolding evalF choicesF
-  match-evalF zero w n = match-still still-wrong
+  match-evalF zero w n = matches-wrong
   match-evalF (suc f) w n =
-      rw (R .kind n, R .a n, R .b n, R .c n)
-      (match-last (match-rule ps t ks p r A w (nodeKind (nodeAt t n .kind)) (R .plain n) (nodeAt t n .a) (nodeAt t n .b) (nodeAt t n .c)
-      (λ v m. match-if (ltb m n) (match-evalF f v m) (match-still still-wrong))) (match-present ps t ks p r A w))
+      listed (λ h. ap (λ ev. choicesRule ps t ks p w (nodeKind (nodeAt t n .kind)) (nodeAt t n .a) (nodeAt t n .b) (nodeAt t n .c) (below n ev)
+          (λ v m. if ltb m n then choicesF ps t ks p f v m else [])) (plain-eval f h))
+      (match-ruled w n (below n (evalF (placesIn m ps) (contentsOf p) v f)) (below n (evalF ps (contentsOf r) u f))
+          (λ v m. if ltb m n then choicesF ps t ks p f v m else [])
+      (λ v m. matches-if (ltb m n) (match-evalF f v m) matches-wrong))

@@ -1,352 +1,402 @@
--- The reduced run takes a step as the plain run does, if it is handed the true numbers.
+-- The second run takes a step as the first does, if it is handed the numbers that only it takes as choices, and the first's choices.
 -- Assumes nothing.
 use mathlib.Core.Path.{_≡_, refl, sym, ap, _∙_, fun-ext, subst}
 use Prim.Native.Nat.{ℕ, zero, suc, _+_, _-_, _≤_, _<_}
+use native.Mathlib.Nat.{mul-le-mul-left, mul-suc}
 use native.Mathlib.Omega.{arith}
-use mathlib.Core.Bool.{Bool, true, false}
-use mathlib.Core.List.{List, [], _∷_, _++_, append-assoc, append-nil}
-use lib.ListN.{length, getD, set, List·getD-eq-default}
-use native.Mathlib.Decide.{decLe}
+use mathlib.Core.Bool.{Bool, true, false, false≢true}
+use mathlib.Core.List.{List, [], _∷_, _++_}
+use lib.ListN.{length, getD}
 use lib.Dec.{ltb, leb, eqb}
-use borrow.Author.Tests.{ltb-true, ltb-false, leb-true, leb-false, lt-ltb, le-ltb, le-leb, lt-leb, eq-eqb}
+use borrow.Author.Tests.{ltb-true, leb-true, leb-false, lt-ltb, eq-eqb}
 use Rattle.lists.specs.If.{if_then_else_}
-use Rattle.lists.specs.First.{walk}
 use Rattle.model.specs.Class.{class}
-use Rattle.model.specs.Table.{Row, Table, Ty, markedPointer, markedUint, matchingEnd, nestAt, nestOf, rowAt, rowKind, scanned, typeAt}
+use Rattle.model.specs.Table.{Row, Table, Ty, markedPointer, markedUint, matchingEnd, rowAt, rowKind, typeAt}
 use Rattle.model.specs.Table.Ty.{bool, uint, pointer}
 use Rattle.model.specs.Table.Row.{skip, assign, store, assert, assume, array, loop, loopEnd, reducedStore, reducedArray, classLoop, noRow}
-use Rattle.model.specs.Work.{Work, _>>=_, choose, give, wrong}
+use Rattle.model.specs.Work.{Work, _>>=_, choose, fail, give, wrong}
 use Rattle.model.specs.Work.Out.{gives}
-use Rattle.model.specs.State.{Array, Loop, State, Value, mostArrays, sortOf}
+use Rattle.model.specs.State.{Array, Loop, MachineKind, Position, State, Value, position, mostArrays, formOf, placesIn}
+use Rattle.model.specs.State.MachineKind.{plain, reduced}
 use Rattle.model.specs.State.Value.{Uint, Class, Pointer}
-use Rattle.model.specs.Eval.{Ptr, eval, indexOf, keeps, sizeOf, storeOf, used, value}
-use Rattle.model.specs.Step.{End, Move, addArray, enter, goTo, loopAt, newArray, node, past, pastEnd, put, reducedWrite, repeatLoop, rowRule, setVar, step, stepAt, withCell, withLoops, withVar, write}
+use Rattle.model.specs.Eval.{Of, Ptr, eval, indexOf, keeps, ptr, sizeOf, contentsOf, cellsLaid, value}
+use Rattle.model.specs.Step.{End, Move, addArray, enter, loopAt, newArray, node, past, pastEnd, put, reducedWrite, repeatLoop, rowRule, setVar, step}
+use Rattle.model.specs.Step.{opened, stepAt, withCell, withHere, withMemory, withVar, write}
 use Rattle.model.specs.Step.End.{assertFalse, assumeFalse, wantOfCells}
 use Rattle.model.specs.Step.Move.{to, stop}
 use Rattle.model.specs.Agree.{SameVariable, arrayAt}
-use Rattle.model.specs.Writer.{heldAfter, loopChoices, nodeChoices, repeatChoices, rowChoices, stepChoices, storeChoices}
-use Rattle.model.proofs.Match.{Match, Matches, match-if, match-still, matches-bind, matches-give, matches-last, matches-with, matches-wrong, still-give, still-if, still-wrong}
-use Rattle.model.proofs.Match.Both.{values, failures, nothings}
+use Rattle.model.specs.Writer.{given, heldAfter, heldNext, loopChoices, nodeChoices, repeatChoices, rowChoices, stepChoices, storeChoices}
+use Rattle.model.proofs.Match.{Match, Matches, Plainly, listed, match-bind, match-choose, match-give, match-last, match-told, matches-are}
+use Rattle.model.proofs.Match.{matches-as, matches-either, matches-fail, matches-give, matches-if, matches-with, matches-wrong}
 use Rattle.model.proofs.Memory.{inside}
-use Rattle.model.proofs.Linked.{Linked, LinkedMemory}
-use Rattle.model.proofs.Keep.{index-in, memory-drop, memory-new, memory-write, vars-set}
-use Rattle.model.proofs.MatchEval.{Reduces, match-evalF, still-add}
+use Rattle.model.proofs.KindsIn.{PlainRow, TableIn, rowIn, same-end, storeIn}
+use Rattle.model.proofs.Linked.{AlsoMarked, Extra, FitLoops, FitOf, FitValue, Linked, LinkedMemory, Related, Tight, onlySecond}
+use Rattle.model.proofs.Keep.{cleared-fits, index-in, kept-also, memory-drop, memory-new, memory-write, set-fits, size-also, vars-set}
+use Rattle.model.proofs.MatchEval.{Flat, first-flat, match-add, match-evalF, never-plain, no-places, same-places}
 
--- the kind that a row becomes, if its variable is a marked uint (u), or a marked pointer (q)
-abbrev pub reducedRow : Bool → Bool → Row → Row
-reducedRow u q skip = skip
-reducedRow u q assign = assign
-reducedRow u q store = reducedStore
-reducedRow u q assert = assert
-reducedRow u q assume = assume
-reducedRow u q array = if q then reducedArray else array
-reducedRow u q loop = if u then classLoop else loop
-reducedRow u q loopEnd = loopEnd
-reducedRow u q reducedStore = reducedStore
-reducedRow u q reducedArray = reducedArray
-reducedRow u q classLoop = classLoop
-reducedRow u q noRow = noRow
+-- two moves: to states that are related, or to one end. A first run that ends for want of cells is not compared; a second may end so, unless
+-- it has enough for each array
+pub data Moves (extra : Extra) (S : State → State → Type 0) : Move → Move → Type 0 where
+  both-to : {p r : State} → S p r → Moves extra S (to p) (to r)
+  both-stop : {e : End} → Moves extra S (stop e) (stop e)
+  first-wants : {a : Move} → Moves extra S (stop wantOfCells) a
+  second-wants : {a : Move} → Tight extra → Moves extra S a (stop wantOfCells)
 
--- a kind of a plain table, and what the checks say of the variable a
-abbrev pub PlainRow : Table → Row → ℕ → Type 0
-PlainRow t skip a = Unit {0}
-PlainRow t assign a = markedUint t a ≡ false
-PlainRow t store a = Unit {0}
-PlainRow t assert a = Unit {0}
-PlainRow t assume a = Unit {0}
-PlainRow t array a = markedUint t a ≡ false
-PlainRow t loop a = Unit {0}
-PlainRow t loopEnd a = Unit {0}
-PlainRow t reducedStore a = ⊥
-PlainRow t reducedArray a = ⊥
-PlainRow t classLoop a = ⊥
-PlainRow t noRow a = Unit {0}
-
-pub record ReducesRows (t u : Table) : Type 0 where
-  pub nodes : Reduces t u
-  pub rows : u .rows ≡ t .rows
-  pub count : u .nodes ≡ t .nodes
-  pub type : (i : ℕ) → typeAt u i ≡ typeAt t i
-  pub plain : (n : ℕ) → PlainRow t (rowKind (rowAt t n .kind)) (rowAt t n .a)
-  pub kind : (n : ℕ) → rowKind (rowAt u n .kind) ≡ reducedRow (markedUint t (rowAt t n .a)) (markedPointer t (rowAt t n .a)) (rowKind (rowAt t n .kind))
-  pub a : (n : ℕ) → rowAt u n .a ≡ rowAt t n .a
-  pub b : (n : ℕ) → rowAt u n .b ≡ rowAt t n .b
-  pub c : (n : ℕ) → rowAt u n .c ≡ rowAt t n .c
-
--- two moves: to states that are related, or to one end; a plain run that ends for want of cells is not compared
-pub data Moves (S : State → State → Type 0) : Move → Move → Type 0 where
-  both-to : {p r : State} → S p r → Moves S (to p) (to r)
-  both-stop : {e : End} → Moves S (stop e) (stop e)
-  want : {m : Move} → Moves S (stop wantOfCells) m
-
-pub same-nest : (u q : Bool) (k : Row) → nestOf (reducedRow u q k) ≡ nestOf k
-same-nest u q skip = refl
-same-nest u q assign = refl
-same-nest u q store = refl
-same-nest u q assert = refl
-same-nest u q assume = refl
-same-nest u true array = refl
-same-nest u false array = refl
-same-nest true q loop = refl
-same-nest false q loop = refl
-same-nest u q loopEnd = refl
-same-nest u q reducedStore = refl
-same-nest u q reducedArray = refl
-same-nest u q classLoop = refl
-same-nest u q noRow = refl
-
-module _ (t u : Table) (R : ReducesRows t u) where
-  pub nest-same : (r : ℕ) → nestAt u r ≡ nestAt t r
-  nest-same r = ap nestOf (R .kind r) ∙ same-nest _ _ (rowKind (rowAt t r .kind))
-
-  pub same-end : (r : ℕ) → matchingEnd u r ≡ matchingEnd t r
-  unfolding matchingEnd
-  same-end r =
-      ap (λ (k : ℕ). walk (λ i rest. scanned (nestAt u i) i rest) (λ d. k) (suc r) (k - suc r) 0) (R .rows)
-      ∙ ap (λ (g : ℕ → (ℕ → ℕ) → ℕ → ℕ). walk g (λ d. t .rows) (suc r) (t .rows - suc r) 0) (fun-ext λ i. fun-ext λ rest. ap (λ k. scanned k i rest) (nest-same i))
-
-  match-out : (r : ℕ) → Match (pastEnd t r) (pastEnd u r) []
-  match-out r =
-      subst (λ k. Match (pastEnd t r) (if ltb (matchingEnd u r) k then give (suc (matchingEnd u r)) else wrong) []) (sym (R .rows))
-      (rw (same-end r) (match-still (still-if (ltb (matchingEnd t r) (t .rows)) (still-give _) still-wrong)))
-
--- two classes, or a value and itself, have one sort
-sort-seen : (ps : List ℕ) (b : Bool) (v w o q : Value) → SameVariable ps b v w → SameVariable ps b o q → eqb (sortOf w) (sortOf q) ≡ eqb (sortOf v) (sortOf o)
-sort-seen ps false v w o q x y = rw (x, y)
-sort-seen ps true v w o q x y = rw (ap sortOf (x .1), ap sortOf (x .2), ap sortOf (y .1), ap sortOf (y .2))
+-- ---- one machine
 
 -- a write inside
 put-in : (ps : List ℕ) (s : State) (a : Array) (j x : ℕ) → j < sizeOf ps a → a .start + j < length (s .cells) → (cs : List ℕ)
     → put ps s a j x cs ≡ gives (to (past (withCell s (a .start + j) x))) cs
 put-in ps s a j x h k cs = simp (lt-ltb _ _ h, lt-ltb _ _ k)
 
--- the place of a write: the one conditional, or none
-chosen : (ps : List ℕ) (b : Bool) (q : ℕ) (cs : List ℕ)
-    → (if_then_else_ {A = Work ℕ} b (choose (λ v. eqb (class ps v) (class ps q))) (give q)) ((if b then q ∷ [] else []) ++ cs) ≡ gives q cs
-chosen ps true q cs = simp (eq-eqb (class ps q) (class ps q) refl)
-chosen ps false q cs = refl
+flat-write : (ps : List ℕ) (s : State) → Flat (s .arrays) → write ps s ≡ reducedWrite ps s
+flat-write ps s flat = fun-ext λ p. fun-ext λ x. fun-ext λ cs. at (p .array) (p .place) x cs
+  where
+    at : (i q x : ℕ) (cs : List ℕ) → write ps s (ptr i q) x cs ≡ reducedWrite ps s (ptr i q) x cs
+    at zero q x cs = refl
+    at (suc i) q x cs = go (ltb i (length (s .arrays))) refl
+      where
+        go : (d : Bool) → ltb i (length (s .arrays)) ≡ d → write ps s (ptr (suc i) q) x cs ≡ reducedWrite ps s (ptr (suc i) q) x cs
+        go true d = simp (d, flat i (ltb-true i _ d))
+        go false d = simp d
 
-module _ (ps : List ℕ) (t u : Table) (R : ReducesRows t u) (ks : List Bool) where
-  -- a variable set
-  match-set : {p r : State} → Linked ps t ks p r → (a : ℕ) (v w : Value) → SameVariable ps (markedUint t a) v w → Matches (Linked ps t ks) (setVar p a v) (setVar r a w) []
-  match-set {p} {r} A a v w s = go (ltb a (length (p .vars))) refl (eqb (sortOf v) (sortOf (getD (p .vars) a (Uint 0)))) refl
-    where
-      linked : Linked ps t ks (withVar p a v) (withVar r a w)
-      linked = record { row = A .row; loops = A .loops; vars = vars-set ps t (A .vars) a v w s; memory = A .memory }
+store-acts : (ps : List ℕ) (t : Table) (s : State) (n a b c : ℕ) (m : MachineKind) → (m ≡ plain → Flat (s .arrays))
+    → rowRule ps t s n (storeIn m) a b c ≡ rowRule ps t s n reducedStore a b c
+unfolding rowRule
+store-acts ps t s n a b c plain h = ap (λ (w : Ptr → ℕ → Work Move). node ps t s pointer a >>= λ p. node ps t s uint b >>= λ x. w p x)
+    (flat-write ps s (h refl))
+store-acts ps t s n a b c reduced h = refl
 
-      same : ltb a (length (p .vars)) ≡ true → eqb (sortOf w) (sortOf (getD (r .vars) a (Uint 0))) ≡ eqb (sortOf v) (sortOf (getD (p .vars) a (Uint 0)))
-      same d = sort-seen ps (markedUint t a) v w (getD (p .vars) a (Uint 0)) (getD (r .vars) a (Uint 0)) s (A .vars .variable a (ltb-true a _ d))
+-- a write, once its array is known: its place, which may be chosen, and what is done there
+abbrev placed : List ℕ → Bool → ℕ → Work ℕ
+placed ps b q = if b then choose (λ v. eqb (class ps v) (class ps q)) else give q
 
-      go : (d : Bool) → ltb a (length (p .vars)) ≡ d → (e : Bool) → eqb (sortOf v) (sortOf (getD (p .vars) a (Uint 0))) ≡ e
-          → Matches (Linked ps t ks) (setVar p a v) (setVar r a w) []
-      go false d e e′ = record { both = nothings; plain = λ cs. simp d; matched = λ cs. simp (A .vars .number, d) }
-      go true d true e = record { both = values _ _ linked; plain = λ cs. simp (d, e); matched = λ cs. simp (A .vars .number, d, same d ∙ e) }
-      go true d false e = record { both = nothings; plain = λ cs. simp (d, e); matched = λ cs. simp (A .vars .number, d, same d ∙ e) }
+abbrev stored : List ℕ → State → Array → ℕ → ℕ → Work Move
+stored ps s a x v = if ltb v (a .len) then (if keeps ps a v then put ps s a (indexOf ps a v) x else give (to (past s))) else fail
 
-  -- other cells, on the next row
-  linked-cells : {p r : State} → Linked ps t ks p r → {pc rc : List ℕ} → LinkedMemory ps ks (p .arrays) pc (r .arrays) rc
-      → Linked ps t ks (record { row = suc (p .row); loops = p .loops; vars = p .vars; arrays = p .arrays; cells = pc })
-      (record { row = suc (r .row); loops = r .loops; vars = r .vars; arrays = r .arrays; cells = rc })
-  linked-cells A M = record { row = ap suc (A .row); loops = A .loops; vars = A .vars; memory = M }
+-- a row that is no loop
+no-store : (ps : List ℕ) (t : Table) (s : State) (n x y : ℕ) (out : Work ℕ) (m : MachineKind) → loopAt ps t s n (storeIn m) x y out ≡ wrong
+no-store ps t s n x y out plain = refl
+no-store ps t s n x y out reduced = refl
 
-  -- a state that goes on to the same row
-  linked-past : {p r : State} → Linked ps t ks p r → Linked ps t ks (past p) (past r)
-  linked-past A = record { row = ap suc (A .row); loops = A .loops; vars = A .vars; memory = A .memory }
+no-array : (ps : List ℕ) (t : Table) (s : State) (n x y : ℕ) (out : Work ℕ) (b : Bool) → loopAt ps t s n (if b then reducedArray else array) x y out ≡ wrong
+no-array ps t s n x y out true = refl
+no-array ps t s n x y out false = refl
 
-  match-enter : {p r : State} → Linked ps t ks p r → (n : ℕ) (v w : Value) → SameVariable ps (markedUint t (rowAt t n .a)) v w → (x y : ℕ)
-      → {out out′ : Work ℕ} → Match out out′ [] → Matches (Moves (Linked ps t ks)) (enter t p n v x y out) (enter u r n w x y out′) []
-  match-enter {p} {r} A n v w s x y {out} {out′} o = rw (R .a n) (matches-with (match-set A (rowAt t n .a) v w s) (λ p′ r′ A′. go p′ r′ A′ (leb x y)))
-    where
-      go : (p′ r′ : State) → Linked ps t ks p′ r′ → (b : Bool)
-          → Matches (Moves (Linked ps t ks))
-          (if b then give (to (goTo (withLoops p′ (record { row = n; start = x; end = y } ∷ p′ .loops)) (suc n))) else (out >>= λ q. give (to (goTo p′ q))))
-          (if b then give (to (goTo (withLoops r′ (record { row = n; start = x; end = y } ∷ r′ .loops)) (suc n))) else (out′ >>= λ q. give (to (goTo r′ q)))) []
-      go p′ r′ A′ true = matches-give (both-to (record { row = refl; loops = ap (λ l. record { row = n; start = x; end = y } ∷ l) (A′ .loops); vars = A′ .vars; memory = A′ .memory }))
-      go p′ r′ A′ false = matches-last o (λ q. matches-give (both-to (record { row = refl; loops = A′ .loops; vars = A′ .vars; memory = A′ .memory })))
+loop-row : (ps : List ℕ) (t : Table) (s : State) (n a b c : ℕ) (f : Bool)
+    → rowRule ps t s n (if f then classLoop else loop) a b c
+        ≡ (node ps t s uint b >>= λ x. node ps t s uint c >>= λ y. loopAt ps t s n (if f then classLoop else loop) x y (pastEnd t n))
+unfolding rowRule
+loop-row ps t s n a b c true = refl
+loop-row ps t s n a b c false = refl
 
-  match-loop : {p r : State} → Linked ps t ks p r → (n : ℕ) (k : Row) → PlainRow t k (rowAt t n .a) → (x y : ℕ) → {out out′ : Work ℕ} → Match out out′ []
-      → Matches (Moves (Linked ps t ks)) (loopAt [] t p n k x y out)
-      (loopAt ps u r n (reducedRow (markedUint t (rowAt t n .a)) (markedPointer t (rowAt t n .a)) k) x y out′) (loopChoices ps t ks p n x y)
-  match-loop A n skip h x y o = matches-wrong
-  match-loop A n assign h x y o = matches-wrong
-  match-loop A n store h x y o = matches-wrong
-  match-loop A n assert h x y o = matches-wrong
-  match-loop A n assume h x y o = matches-wrong
-  match-loop {p} {r} A n array h x y {out} {out′} o = go (markedPointer t (rowAt t n .a))
-    where
-      go : (b : Bool) → Matches (Moves (Linked ps t ks)) (wrong {A = Move}) (loopAt ps u r n (if b then reducedArray else array) x y out′) (loopChoices ps t ks p n x y)
-      go true = matches-wrong
-      go false = matches-wrong
-  match-loop {p} {r} A n loop h x y {out} {out′} o = go (markedUint t (rowAt t n .a)) refl
-    where
-      classed : Matches (Moves (Linked ps t ks)) (enter t p n (Uint x) x y out) (enter u r n (Class (class ps x)) x y out′) []
-          → Matches (Moves (Linked ps t ks)) (enter t p n (Uint x) x y out) (loopAt ps u r n classLoop x y out′) (x ∷ y ∷ [])
-      classed m = record {
-        both = m .both;
-        plain = m .plain;
-        matched = λ cs. simp (eq-eqb (class ps x) (class ps x) refl, eq-eqb (class ps y) (class ps y) refl) (m .matched cs);
-      }
+array-row : (ps : List ℕ) (t : Table) (s : State) (n a b c : ℕ) (f : Bool)
+    → rowRule ps t s n (if f then reducedArray else array) a b c ≡ (node ps t s uint b >>= λ l. newArray ps s a l f)
+unfolding rowRule
+array-row ps t s n a b c true = refl
+array-row ps t s n a b c false = refl
 
-      go : (b : Bool) → markedUint t (rowAt t n .a) ≡ b
-          → Matches (Moves (Linked ps t ks)) (loopAt [] t p n loop x y out) (loopAt ps u r n (if b then classLoop else loop) x y out′) (if b then x ∷ y ∷ [] else [])
-      go true e = classed (match-enter A n (Uint x) (Class (class ps x)) (rw e (x, refl, refl)) x y o)
-      go false e = match-enter A n (Uint x) (Uint x) (rw e refl) x y o
-  match-loop A n loopEnd h x y o = matches-wrong
-  match-loop A n reducedStore h x y o = absurd h
-  match-loop A n reducedArray h x y o = absurd h
-  match-loop A n classLoop h x y o = absurd h
-  match-loop A n noRow h x y o = matches-wrong
+same-out : {m : MachineKind} {us bs : ℕ → Bool} {t u : Table} → TableIn m us bs t u → (r : ℕ) → pastEnd u r ≡ pastEnd t r
+same-out {t = t} {u = u} R r =
+    ap (λ (k : ℕ). if_then_else_ {A = Work ℕ} (ltb (matchingEnd u r) k) (give (suc (matchingEnd u r))) wrong) (R .rows)
+    ∙ ap (λ (e : ℕ). if_then_else_ {A = Work ℕ} (ltb e (t .rows)) (give (suc e)) wrong) (same-end t u R r)
 
-  match-repeat : {p r : State} → Linked ps t ks p r → (ls : List Loop)
-      → Matches (Moves (Linked ps t ks)) (repeatLoop [] t p ls) (repeatLoop ps u r ls) (repeatChoices ps t ks p ls)
-  match-repeat A [] = matches-wrong
-  match-repeat {p} {r} A (l ∷ ls) =
-      matches-bind (match-still (still-add (l .start) 1))
-      (λ x. rw (R .kind (l .row))
-      (match-loop {p = withLoops p ls} {r = withLoops r ls} (record { row = A .row; loops = refl; vars = A .vars; memory = A .memory }) (l .row) (rowKind (rowAt t (l .row) .kind)) (R .plain (l .row)) x (l .end)
-      (subst (λ (k : ℕ). Match (give (suc (p .row))) (give (suc k)) []) (sym (A .row)) (match-still (still-give (suc (p .row)))))))
+-- two classes, or a value and itself, have one form
+form-seen : (ps : List ℕ) (b : Bool) (v w o q : Value) → SameVariable ps b v w → SameVariable ps b o q → eqb (formOf w) (formOf q) ≡ eqb (formOf v) (formOf o)
+form-seen ps false v w o q x y = rw (x, y)
+form-seen ps true v w o q x y = rw (ap formOf (x .1), ap formOf (x .2), ap formOf (y .1), ap formOf (y .2))
 
-  match-write′ : {p r : State} → Linked ps t ks p r → (i q y : ℕ)
-      → Matches (Moves (Linked ps t ks)) (write [] p (record { array = i; place = q }) y) (reducedWrite ps r (record { array = i; place = q }) y)
-      (storeChoices ps t ks p (record { array = i; place = q }))
-  match-write′ A zero q y = record { both = failures; plain = λ cs. refl; matched = λ cs. refl }
-  match-write′ {p} {r} A (suc i) q y = go (ltb i (length (p .arrays))) refl (ltb q (arrayAt (p .arrays) i .len)) refl (keeps ps (arrayAt (r .arrays) i) q) refl
-    where
-      M : LinkedMemory ps ks (p .arrays) (p .cells) (r .arrays) (r .cells)
-      M = A .memory
+only-none : (b c : Bool) → c ≡ false → (if b then false else c) ≡ false
+only-none true c e = refl
+only-none false c e = e
 
-      there : ltb i (length (p .arrays)) ≡ true → i < length (p .arrays)
-      there d = ltb-true i _ d
+-- ---- two machines
 
-      plain-put : ltb i (length (p .arrays)) ≡ true → q < arrayAt (p .arrays) i .len → (cs : List ℕ)
-          → put [] p (arrayAt (p .arrays) i) q y cs ≡ gives (to (past (withCell p (arrayAt (p .arrays) i .start + q) y))) cs
-      plain-put d k cs = put-in [] p (arrayAt (p .arrays) i) q y (simp (M .plain i (there d)) k) (inside [] (M .laidPlain) i (there d) q (simp (M .plain i (there d)) k)) cs
+match-placed : {m : MachineKind} {F : ℕ → Type 0} (ps : List ℕ) (b c : Bool) → AlsoMarked m b c → (q : ℕ) → F q
+    → Match m F F (placed (placesIn m ps) b q) (placed ps c q) (if c then q ∷ [] else [])
+match-placed ps false false h q k = match-give k
+match-placed ps false true h q k = match-told (λ v. eqb (class ps v) (class ps q)) q (eq-eqb (class ps q) (class ps q) refl) k
+match-placed ps true false h q k = absurd (false≢true (h refl .1))
+match-placed {m} {F} ps true true h q k =
+    subst (λ qs. Match m F F (placed qs true q) (placed ps true q) (q ∷ [])) (sym (same-places (h refl .0) ps))
+        (match-choose (never-plain (h refl .0)) (λ v. eqb (class ps v) (class ps q)))
 
-      reduced-put : ltb i (length (p .arrays)) ≡ true → q < arrayAt (p .arrays) i .len → keeps ps (arrayAt (r .arrays) i) q ≡ true → (cs : List ℕ)
-          → put ps r (arrayAt (r .arrays) i) (indexOf ps (arrayAt (r .arrays) i) q) y cs
-          ≡ gives (to (past (withCell r (arrayAt (r .arrays) i .start + indexOf ps (arrayAt (r .arrays) i) q) y))) cs
-      reduced-put d k g cs =
-          let l : indexOf ps (arrayAt (r .arrays) i) q < sizeOf ps (arrayAt (r .arrays) i) = index-in ps (arrayAt (r .arrays) i .reduced) _ q (rw (M .len i (there d)) k) g in
-          put-in ps r (arrayAt (r .arrays) i) _ y l (inside ps (M .laidReduced) i (omega (arith, M .number, there d)) _ l) cs
+module _ {m : MachineKind} {F : ℕ → Type 0} (ps : List ℕ) (extra : Extra) {us bs : ℕ → Bool} {t v u : Table} (R : Related m F us bs t v u) where
+  abbrev fs : List ℕ
+  fs = placesIn m ps
 
-      go : (d : Bool) → ltb i (length (p .arrays)) ≡ d → (e : Bool) → ltb q (arrayAt (p .arrays) i .len) ≡ e → (g : Bool) → keeps ps (arrayAt (r .arrays) i) q ≡ g
-          → Matches (Moves (Linked ps t ks)) (write [] p (record { array = suc i; place = q }) y) (reducedWrite ps r (record { array = suc i; place = q }) y)
-          (storeChoices ps t ks p (record { array = suc i; place = q }))
-      go false d e e′ g g′ = record { both = nothings; plain = λ cs. simp d; matched = λ cs. simp (M .number, d) }
-      go true d false e g g′ =
-          let e′ : ltb q (arrayAt (r .arrays) i .len) ≡ false = rw (M .len i (there d)) e in
-          record {
-            both = failures;
-            plain = λ cs. simp (d, e);
-            matched = λ cs. simp (M .flag i (there d), M .number, d, chosen ps (arrayAt (r .arrays) i .reduced) q cs, e′);
-          }
-      go true d true e true g =
-          let k : q < arrayAt (p .arrays) i .len = ltb-true q _ e in
-          let e′ : ltb q (arrayAt (r .arrays) i .len) ≡ true = rw (M .len i (there d)) e in
-          record {
-            both = values _ _ (both-to (linked-cells A (memory-write ps ks _ _ _ _ M i q (there d) k y g)));
-            plain = λ cs. simp (d, e) (plain-put d k cs);
-            matched = λ cs. simp (M .flag i (there d), M .number, d, chosen ps (arrayAt (r .arrays) i .reduced) q cs, e′, g) (reduced-put d k g cs);
-          }
-      go true d true e false g =
-          let k : q < arrayAt (p .arrays) i .len = ltb-true q _ e in
-          let e′ : ltb q (arrayAt (r .arrays) i .len) ≡ true = rw (M .len i (there d)) e in
-          record {
-            both = values _ _ (both-to (linked-cells {r = r} A (memory-drop ps ks _ _ _ _ M i q (there d) k y g)));
-            plain = λ cs. simp (d, e) (plain-put d k cs);
-            matched = λ cs. simp (M .flag i (there d), M .number, d, chosen ps (arrayAt (r .arrays) i .reduced) q cs, e′, g);
-          }
+  abbrev only : ℕ → Bool
+  only = onlySecond us (markedUint t)
 
-  match-write : {p r : State} → Linked ps t ks p r → (x : Ptr) (y : ℕ) → Matches (Moves (Linked ps t ks)) (write [] p x y) (reducedWrite ps r x y) (storeChoices ps t ks p x)
-  match-write A x y = match-write′ A (x .array) (x .place) y
+  abbrev L : List Bool → State → State → Type 0
+  L ks p r = Linked m F ps extra only ks p r
 
-module _ (ps : List ℕ) (t u : Table) (R : ReducesRows t u) (ks : List Bool) (small : (n : ℕ) → class ps n ≤ n + 1) where
-  match-add : {p r : State} → Linked ps t ks p r → (n : ℕ) (f : Bool) → Moves (Linked ps t (ks ++ f ∷ [])) (addArray [] p n false) (addArray ps r n f)
-  match-add {p} {r} A n f = go (leb mostArrays (length (p .arrays))) refl (leb (used [] (p .arrays) + n) (length (p .cells))) refl
-    where
-      M : LinkedMemory ps ks (p .arrays) (p .cells) (r .arrays) (r .cells)
-      M = A .memory
+  module _ (ks : List Bool) where
+    -- a variable set
+    match-set : {p r : State} → L ks p r → (a : ℕ) (x y : Value) → SameVariable ps (only a) x y → FitValue F x
+        → Matches m F (L ks) (setVar p a x) (setVar r a y) []
+    match-set {p} {r} A a x y s k = go (ltb a (length (p .vars))) refl (eqb (formOf x) (formOf (getD (p .vars) a (Uint 0)))) refl
+      where
+        linked : L ks (withVar p a x) (withVar r a y)
+        linked = record {
+          here = A .here;
+          vars = vars-set ps only (A .vars) a x y s;
+          memory = A .memory;
+          fitVars = set-fits (FitValue F) (p .vars) a x (Uint 0) (A .fitVars) k;
+          fitCells = A .fitCells;
+          fitLoops = A .fitLoops;
+        }
 
-      fits-one : (b : Bool) → (if b then class ps n else n) ≤ n + 1
-      fits-one true = small n
-      fits-one false = omega arith
+        same : ltb a (length (p .vars)) ≡ true → eqb (formOf y) (formOf (getD (r .vars) a (Uint 0))) ≡ eqb (formOf x) (formOf (getD (p .vars) a (Uint 0)))
+        same d = form-seen ps (only a) x y (getD (p .vars) a (Uint 0)) (getD (r .vars) a (Uint 0)) s (A .vars .variable a (ltb-true a _ d))
 
-      go : (d : Bool) → leb mostArrays (length (p .arrays)) ≡ d → (e : Bool) → leb (used [] (p .arrays) + n) (length (p .cells)) ≡ e
-          → Moves (Linked ps t (ks ++ f ∷ [])) (addArray [] p n false) (addArray ps r n f)
-      go true d e e′ = rw d want
-      go false d false e = rw (d, e) want
-      go false d true e =
-          let few : length (p .arrays) < mostArrays = leb-false mostArrays _ d in
-          let fits : used [] (p .arrays) + n ≤ length (p .cells) = leb-true _ _ e in
-          let d′ : leb mostArrays (length (r .arrays)) ≡ false = lt-leb mostArrays (length (r .arrays)) (omega (arith, M .number)) in
-          let e′ : leb (used ps (r .arrays) + (if f then class ps n else n)) (length (r .cells)) ≡ true = le-leb (used ps (r .arrays) + (if f then class ps n else n)) (length (r .cells)) (omega (arith, M .fewer, M .room, fits-one f)) in
-          rw (d, e, d′, e′)
-          (both-to (record { row = ap suc (A .row); loops = A .loops; vars = A .vars; memory = memory-new ps ks _ _ _ _ M n f few fits (fits-one f) }))
+        go : (d : Bool) → ltb a (length (p .vars)) ≡ d → (e : Bool) → eqb (formOf x) (formOf (getD (p .vars) a (Uint 0))) ≡ e
+            → Matches m F (L ks) (setVar p a x) (setVar r a y) []
+        go false d e e′ = matches-as (λ cs. simp d) (λ cs. simp (A .vars .number, d)) matches-wrong
+        go true d true e = matches-as (λ cs. simp (d, e)) (λ cs. simp (A .vars .number, d, same d ∙ e)) (matches-give linked)
+        go true d false e = matches-as (λ cs. simp (d, e)) (λ cs. simp (A .vars .number, d, same d ∙ e)) matches-wrong
 
-  match-new : {p r : State} → Linked ps t ks p r → (a n : ℕ) → markedUint t a ≡ false → (f : Bool)
-      → Matches (Moves (Linked ps t (ks ++ f ∷ []))) (newArray [] p a n false) (newArray ps r a n f) []
-  match-new {p} {r} A a n h f =
-      matches-with (match-set ps t u R ks A a (Pointer (suc (length (p .arrays))) 0) (Pointer (suc (length (r .arrays))) 0) (rw h (ap (λ (k : ℕ). Pointer (suc k) 0) (A .memory .number))))
-      (λ p′ r′ A′. matches-give (match-add A′ n f))
+    -- both go on at one place
+    linked-here : {p r : State} → L ks p r → {h k : Position} → k ≡ h → FitLoops F (h .loops) → L ks (withHere p h) (withHere r k)
+    linked-here A e f = record { here = e; vars = A .vars; memory = A .memory; fitVars = A .fitVars; fitCells = A .fitCells; fitLoops = f }
 
-  match-node : {p r : State} → Linked ps t ks p r → (w : Ty) (n : ℕ) → Match (node [] t p w n) (node ps u r w n) (nodeChoices ps t ks p w n)
-  unfolding eval nodeChoices
-  match-node {p} {r} A w n =
-      subst (λ (k : ℕ). Match (node [] t p w n) (if ltb n k then eval ps (storeOf r) u w n else wrong) (nodeChoices ps t ks p w n)) (sym (R .count))
-      (match-if (ltb n (t .nodes)) (match-evalF ps t u (R .nodes) ks p r A (suc n) w n) (match-still still-wrong))
+    linked-past : {p r : State} → L ks p r → L ks (past p) (past r)
+    linked-past A = linked-here A (ap (λ (h : Position). position (suc (h .row)) (h .loops)) (A .here)) (A .fitLoops)
 
-  match-row : {p r : State} → Linked ps t ks p r → (n : ℕ) (k : Row) → PlainRow t k (rowAt t n .a) → (b c : ℕ)
-      → Matches (Moves (Linked ps t (heldAfter k (markedPointer t (rowAt t n .a)) ks))) (rowRule [] t p n k (rowAt t n .a) b c)
-      (rowRule ps u r n (reducedRow (markedUint t (rowAt t n .a)) (markedPointer t (rowAt t n .a)) k) (rowAt t n .a) b c) (rowChoices ps t ks p n k (rowAt t n .a) b c)
-  unfolding rowRule rowChoices
-  match-row A n skip h b c = matches-give (both-to (linked-past ps t u R ks A))
-  match-row {p} {r} A n assign h b c =
-      rw (R .type (rowAt t n .a))
-      (matches-last (match-node A (typeAt t (rowAt t n .a)) b)
-      (λ x. matches-with (match-set ps t u R ks A (rowAt t n .a) (value (typeAt t (rowAt t n .a)) x) (value (typeAt t (rowAt t n .a)) x) (rw h refl))
-      (λ p′ r′ A′. matches-give (both-to (linked-past ps t u R ks A′)))))
-  match-row {p} {r} A n store h b c =
-      matches-bind (match-node A pointer _)
-      (λ x. matches-bind (match-node A uint b) (λ y. match-write ps t u R ks A x y))
-  match-row {p} {r} A n assert h b c =
-      matches-last (match-node A bool _) (λ x. matches-give (test x assertFalse))
-    where
-      test : (x : Bool) (e : End) → Moves (Linked ps t ks) (if x then to (past p) else stop e) (if x then to (past r) else stop e)
-      test true e = both-to (linked-past ps t u R ks A)
-      test false e = both-stop
-  match-row {p} {r} A n assume h b c =
-      matches-last (match-node A bool _) (λ x. matches-give (test x assumeFalse))
-    where
-      test : (x : Bool) (e : End) → Moves (Linked ps t ks) (if x then to (past p) else stop e) (if x then to (past r) else stop e)
-      test true e = both-to (linked-past ps t u R ks A)
-      test false e = both-stop
-  match-row {p} {r} A n array h b c = go (markedPointer t (rowAt t n .a))
-    where
-      go : (q : Bool)
-          → Matches (Moves (Linked ps t (ks ++ q ∷ []))) (rowRule [] t p n array (rowAt t n .a) b c) (rowRule ps u r n (if q then reducedArray else array) (rowAt t n .a) b c) (nodeChoices ps t ks p uint b)
-      go true = matches-last (match-node A uint b) (λ l. match-new A _ l h true)
-      go false = matches-last (match-node A uint b) (λ l. match-new A _ l h false)
-  match-row {p} {r} A n loop h b c =
-      rw (loop-row (markedUint t (rowAt t n .a)))
-      (matches-bind (match-node A uint b)
-      (λ x. matches-bind (match-node A uint c) (λ y. match-loop ps t u R ks A n loop h x y (match-out t u R n))))
-    where
-      loop-row : (m : Bool)
-          → rowRule ps u r n (if m then classLoop else loop) (rowAt t n .a) b c
-          ≡ (node ps u r uint b >>= λ x. node ps u r uint c >>= λ y. loopAt ps u r n (if m then classLoop else loop) x y (pastEnd u n))
-      loop-row true = refl
-      loop-row false = refl
-  match-row {p} {r} A n loopEnd h b c =
-      subst (λ ls. Matches (Moves (Linked ps t ks)) (repeatLoop [] t p (p .loops)) (repeatLoop ps u r ls) (repeatChoices ps t ks p (p .loops))) (sym (A .loops)) (match-repeat ps t u R ks A (p .loops))
-  match-row A n reducedStore h b c = absurd h
-  match-row A n reducedArray h b c = absurd h
-  match-row A n classLoop h b c = absurd h
-  match-row A n noRow h b c = matches-wrong
+    -- other arrays and cells, on the next row; hs says which arrays the second holds reduced then
+    linked-memory : {p r : State} → L ks p r → (hs : List Bool) {pa ra : List Array} {pc rc : List ℕ} → LinkedMemory m ps extra hs pa pc ra rc
+        → ((i : ℕ) → F (getD pc i 0)) → L hs (past (withMemory p pa pc)) (past (withMemory r ra rc))
+    linked-memory A hs M k =
+        let B = linked-past A in
+        record { here = B .here; vars = B .vars; memory = M; fitVars = B .fitVars; fitCells = k; fitLoops = B .fitLoops }
 
-  pub match-step : {p r : State} → Linked ps t ks p r
-      → Matches (Moves (Linked ps t (heldAfter (rowKind (rowAt t (p .row) .kind)) (markedPointer t (rowAt t (p .row) .a)) ks))) (step [] t p) (step ps u r) (stepChoices ps t ks p (p .row))
-  unfolding step stepChoices
-  match-step {p} {r} A =
-      subst (λ n. Matches (Moves (Linked ps t (heldAfter (rowKind (rowAt t (p .row) .kind)) (markedPointer t (rowAt t (p .row) .a)) ks))) (step [] t p) (stepAt ps u r n) (stepChoices ps t ks p (p .row))) (sym (A .row))
-      (rw (R .kind (p .row), R .a (p .row), R .b (p .row), R .c (p .row))
-      (match-row A (p .row) (rowKind (rowAt t (p .row) .kind)) (R .plain (p .row)) (rowAt t (p .row) .b) (rowAt t (p .row) .c)))
+    match-enter : {p r : State} → L ks p r → (n : ℕ) (a b : Value) → SameVariable ps (only (rowAt t n .a)) a b → FitValue F a → (x y : ℕ) → F x → F y
+        → {out out′ : Work ℕ} → Match m F (λ q. Unit {0}) out out′ [] → Matches m F (Moves extra (L ks)) (enter v p n a x y out) (enter u r n b x y out′) []
+    match-enter {p} {r} A n a b s k x y fx fy {out} {out′} o = rw (R .first .a n, R .second .a n)
+        (matches-with (match-set A (rowAt t n .a) a b s k) (λ p′ r′ A′. matches-either (leb x y)
+        (matches-give (both-to (linked-here A′ (ap (λ (h : Position). position (suc n) (opened n x y ∷ h .loops)) (A′ .here)) (fx, fy, A′ .fitLoops))))
+        (match-last o (λ q _. matches-give (both-to (linked-here A′ (ap (λ (h : Position). position q (h .loops)) (A′ .here)) (A′ .fitLoops)))))))
+
+    match-loop : {p r : State} → L ks p r → (n : ℕ) (k : Row) → PlainRow t k (rowAt t n .a) → (x y : ℕ) → F x → F y → {out out′ : Work ℕ}
+        → Match m F (λ q. Unit {0}) out out′ []
+        → Matches m F (Moves extra (L ks)) (loopAt fs v p n (rowIn m (us (rowAt t n .a)) (bs (rowAt t n .a)) k) x y out)
+        (loopAt ps u r n (rowIn reduced (markedUint t (rowAt t n .a)) (markedPointer t (rowAt t n .a)) k) x y out′) (loopChoices ps t ks p n x y)
+    match-loop A n skip h x y fx fy o = matches-wrong
+    match-loop A n assign h x y fx fy o = matches-wrong
+    match-loop {p} A n store h x y fx fy {out} o = matches-are (no-store fs v p n x y out m) refl matches-wrong
+    match-loop A n assert h x y fx fy o = matches-wrong
+    match-loop A n assume h x y fx fy o = matches-wrong
+    match-loop {p} {r} A n array h x y fx fy {out} {out′} o =
+        matches-are (no-array fs v p n x y out (bs (rowAt t n .a))) (no-array ps u r n x y out′ (markedPointer t (rowAt t n .a))) matches-wrong
+    match-loop {p} {r} A n loop h x y fx fy {out} {out′} o = go (us (rowAt t n .a)) refl (markedUint t (rowAt t n .a)) refl
+      where
+        told : only (rowAt t n .a) ≡ true
+            → Matches m F (Moves extra (L ks)) (give x >>= λ a. give y >>= λ b. enter v p n (Uint a) a b out) (loopAt ps u r n classLoop x y out′) (x ∷ y ∷ [])
+        told s =
+            match-bind (match-told (λ w. eqb (class ps w) (class ps x)) x (eq-eqb (class ps x) (class ps x) refl) fx)
+            (λ a fa. match-bind (match-told (λ w. eqb (class ps w) (class ps y)) y (eq-eqb (class ps y) (class ps y) refl) fy)
+            (λ b fb. match-enter A n (Uint a) (Class (class ps a)) (rw s (a, refl, refl)) fa a b fa fb o))
+
+        both : m ≡ reduced → only (rowAt t n .a) ≡ false
+            → Matches m F (Moves extra (L ks)) (loopAt ps v p n classLoop x y out) (loopAt ps u r n classLoop x y out′) []
+        both e s =
+            match-last (match-choose (never-plain e) (λ w. eqb (class ps w) (class ps x)))
+            (λ a fa. match-last (match-choose (never-plain e) (λ w. eqb (class ps w) (class ps y)))
+            (λ b fb. match-enter A n (Class (class ps a)) (Class (class ps a)) (rw s refl) tt a b fa fb o))
+
+        go : (f : Bool) → us (rowAt t n .a) ≡ f → (g : Bool) → markedUint t (rowAt t n .a) ≡ g
+            → Matches m F (Moves extra (L ks)) (loopAt fs v p n (if f then classLoop else loop) x y out)
+                (loopAt ps u r n (if g then classLoop else loop) x y out′) (if g then x ∷ y ∷ [] else [])
+        go false f false g = match-enter A n (Uint x) (Uint x) (simp (f, g) refl) fx x y fx fy o
+        go false f true g = told (simp (f, g))
+        go true f false g = absurd (false≢true (sym g ∙ R .uints (rowAt t n .a) f .1))
+        go true f true g =
+            let e : m ≡ reduced = R .uints (rowAt t n .a) f .0 in
+            listed (λ h. absurd (never-plain e h))
+            (subst (λ qs. Matches m F (Moves extra (L ks)) (loopAt qs v p n classLoop x y out) (loopAt ps u r n classLoop x y out′) [])
+                (sym (same-places e ps)) (both e (simp f)))
+    match-loop A n loopEnd h x y fx fy o = matches-wrong
+    match-loop A n reducedStore h x y fx fy o = absurd h
+    match-loop A n reducedArray h x y fx fy o = absurd h
+    match-loop A n classLoop h x y fx fy o = absurd h
+    match-loop A n noRow h x y fx fy o = matches-wrong
+
+    match-repeat : {p r : State} → L ks p r → (ls : List Loop) → FitLoops F ls
+        → Matches m F (Moves extra (L ks)) (repeatLoop fs v p ls) (repeatLoop ps u r ls) (repeatChoices ps t ks p ls)
+    match-repeat A [] k = matches-wrong
+    match-repeat {p} {r} A (l ∷ ls) k =
+        match-bind (match-add (R .closed) (l .start) 1)
+        (λ x fx. rw (R .first .kind (l .row), R .second .kind (l .row))
+        (match-loop (linked-here A (ap (λ (h : Position). position (h .row) ls) (A .here)) (k .2)) (l .row) (rowKind (rowAt t (l .row) .kind))
+            (R .kinds .row (l .row)) x (l .end) fx (k .1)
+        (matches-give (ap (λ (h : Position). suc (h .row)) (A .here), tt))))
+
+    match-stored : {p r : State} → L ks p r → (i : ℕ) → i < length (p .arrays) → (y : ℕ) → F y → (q : ℕ)
+        → Matches m F (Moves extra (L ks)) (stored fs p (arrayAt (p .arrays) i) y q) (stored ps r (arrayAt (r .arrays) i) y q) []
+    match-stored {p} {r} A i h y fy q = go (ltb q (arrayAt (p .arrays) i .len)) refl (keeps fs (arrayAt (p .arrays) i) q) refl
+        (keeps ps (arrayAt (r .arrays) i) q) refl
+      where
+        M : LinkedMemory m ps extra ks (p .arrays) (p .cells) (r .arrays) (r .cells)
+        M = A .memory
+
+        inside-second : ltb q (arrayAt (p .arrays) i .len) ≡ true → ltb q (arrayAt (r .arrays) i .len) ≡ true
+        inside-second e = rw (M .len i h) e
+
+        first-put : q < arrayAt (p .arrays) i .len → keeps fs (arrayAt (p .arrays) i) q ≡ true → (cs : List ℕ)
+            → put fs p (arrayAt (p .arrays) i) (indexOf fs (arrayAt (p .arrays) i) q) y cs
+            ≡ gives (to (past (withCell p (arrayAt (p .arrays) i .start + indexOf fs (arrayAt (p .arrays) i) q) y))) cs
+        first-put k f =
+            let l = index-in fs (arrayAt (p .arrays) i .reduced) _ q k f in
+            put-in fs p (arrayAt (p .arrays) i) _ y l (inside fs (M .laidFirst) i h _ l)
+
+        second-put : q < arrayAt (p .arrays) i .len → keeps ps (arrayAt (r .arrays) i) q ≡ true → (cs : List ℕ)
+            → put ps r (arrayAt (r .arrays) i) (indexOf ps (arrayAt (r .arrays) i) q) y cs
+            ≡ gives (to (past (withCell r (arrayAt (r .arrays) i .start + indexOf ps (arrayAt (r .arrays) i) q) y))) cs
+        second-put k g =
+            let k′ : q < arrayAt (r .arrays) i .len = rw (M .len i h) k in
+            let l = index-in ps (arrayAt (r .arrays) i .reduced) _ q k′ g in
+            put-in ps r (arrayAt (r .arrays) i) _ y l (inside ps (M .laidSecond) i (omega (arith, M .number)) _ l)
+
+        go : (e : Bool) → ltb q (arrayAt (p .arrays) i .len) ≡ e → (f : Bool) → keeps fs (arrayAt (p .arrays) i) q ≡ f → (g : Bool)
+            → keeps ps (arrayAt (r .arrays) i) q ≡ g
+            → Matches m F (Moves extra (L ks)) (stored fs p (arrayAt (p .arrays) i) y q) (stored ps r (arrayAt (r .arrays) i) y q) []
+        go false e f f′ g g′ = matches-as (λ cs. simp e) (λ cs. simp (M .len i h, e)) matches-fail
+        go true e true f true g =
+            matches-as (λ cs. simp (e, f) (first-put (ltb-true q _ e) f cs)) (λ cs. simp (inside-second e, g) (second-put (ltb-true q _ e) g cs))
+            (matches-give (both-to (linked-memory A ks (memory-write M i q h (ltb-true q _ e) y g) (set-fits F (p .cells) _ y 0 (A .fitCells) fy))))
+        go true e true f false g =
+            matches-as (λ cs. simp (e, f) (first-put (ltb-true q _ e) f cs)) (λ cs. simp (inside-second e, g))
+            (matches-give (both-to (linked-memory {r = r} A ks (memory-drop M i q h (ltb-true q _ e) y f g) (set-fits F (p .cells) _ y 0 (A .fitCells) fy))))
+        go true e false f true g =
+            absurd (false≢true (sym f ∙ kept-also m ps (arrayAt (p .arrays) i .reduced) (arrayAt (r .arrays) i .reduced) q (M .also i h) g))
+        go true e false f false g = matches-as (λ cs. simp (e, f)) (λ cs. simp (inside-second e, g)) (matches-give (both-to (linked-past A)))
+
+    match-write : {p r : State} → L ks p r → (i q y : ℕ) → F q → F y
+        → Matches m F (Moves extra (L ks)) (reducedWrite fs p (ptr i q) y) (reducedWrite ps r (ptr i q) y) (storeChoices ps t ks p (ptr i q))
+    match-write A zero q y fq fy = matches-fail
+    match-write {p} {r} A (suc i) q y fq fy = go (ltb i (length (p .arrays))) refl
+      where
+        go : (d : Bool) → ltb i (length (p .arrays)) ≡ d
+            → Matches m F (Moves extra (L ks)) (reducedWrite fs p (ptr (suc i) q) y) (reducedWrite ps r (ptr (suc i) q) y)
+                (if getD ks i false then q ∷ [] else [])
+        go false d = matches-as (λ cs. simp d) (λ cs. simp (A .memory .number, d)) matches-wrong
+        go true d =
+            let h : i < length (p .arrays) = ltb-true i _ d in
+            rw (A .memory .flag i h)
+            (matches-as (λ cs. simp d) (λ cs. simp (A .memory .number, d))
+            (match-last (match-placed ps (arrayAt (p .arrays) i .reduced) (arrayAt (r .arrays) i .reduced) (A .memory .also i h) q fq)
+                (λ a _. match-stored A i h y fy a)))
+
+    match-array : ((n : ℕ) → class ps n ≤ n + extra .perArray) → {p r : State} → L ks p r → (n : ℕ) (b c : Bool) → AlsoMarked m b c
+        → Moves extra (L (ks ++ c ∷ [])) (addArray fs p n b) (addArray ps r n c)
+    match-array small {p} {r} A n b c also =
+        go (leb mostArrays (length (p .arrays))) refl (leb (cellsLaid fs (p .arrays) + (if b then class fs n else n)) (length (p .cells))) refl
+        (leb (cellsLaid ps (r .arrays) + (if c then class ps n else n)) (length (r .cells))) refl
+      where
+        M : LinkedMemory m ps extra ks (p .arrays) (p .cells) (r .arrays) (r .cells)
+        M = A .memory
+
+        go : (d : Bool) → leb mostArrays (length (p .arrays)) ≡ d → (e : Bool)
+            → leb (cellsLaid fs (p .arrays) + (if b then class fs n else n)) (length (p .cells)) ≡ e
+            → (f : Bool) → leb (cellsLaid ps (r .arrays) + (if c then class ps n else n)) (length (r .cells)) ≡ f
+            → Moves extra (L (ks ++ c ∷ [])) (addArray fs p n b) (addArray ps r n c)
+        go true d e e′ f f′ = rw d first-wants
+        go false d false e f f′ = rw (d, e) first-wants
+        go false d true e true f =
+            let d′ : leb mostArrays (length (r .arrays)) ≡ false = rw (M .number) d in
+            rw (d, e, d′, f)
+            (both-to (linked-memory A (ks ++ c ∷ []) (memory-new M n b c also (small n) (leb-true _ _ e) (leb-true _ _ f))
+            (cleared-fits F (R .closed .none) (cellsLaid fs (p .arrays)) (if b then class fs n else n) (p .cells) (leb-true _ _ e) (A .fitCells))))
+        go false d true e false f =
+            let d′ : leb mostArrays (length (r .arrays)) ≡ false = rw (M .number) d in
+            let few : length (p .arrays) < mostArrays = leb-false mostArrays _ d in
+            let fits : cellsLaid fs (p .arrays) + (if b then class fs n else n) ≤ length (p .cells) = leb-true _ _ e in
+            let lacks : length (r .cells) < cellsLaid ps (r .arrays) + (if c then class ps n else n) = leb-false _ _ f in
+            rw (d, e, d′, f)
+            (second-wants (omega (arith, M .fewer, M .room, mul-suc (extra .perArray) (length (p .arrays)), mul-le-mul-left
+                (extra .perArray) few, size-also m ps b c n (extra .perArray) also (small n))))
+
+    match-new : ((n : ℕ) → class ps n ≤ n + extra .perArray) → {p r : State} → L ks p r → (a n : ℕ) → markedUint t a ≡ false → (b c : Bool) → AlsoMarked m b c
+        → Matches m F (Moves extra (L (ks ++ c ∷ []))) (newArray fs p a n b) (newArray ps r a n c) []
+    match-new small {p} {r} A a n h b c also =
+        matches-with (match-set A a (Pointer (suc (length (p .arrays))) 0) (Pointer (suc (length (r .arrays))) 0)
+        (rw (only-none (us a) (markedUint t a) h) (ap (λ (k : ℕ). Pointer (suc k) 0) (A .memory .number))) (R .closed .none))
+        (λ p′ r′ A′. matches-give (match-array small A′ n b c also))
+
+    match-node : {p r : State} → L ks p r → (w : Ty) (n : ℕ) → Match m F (FitOf F w) (node fs v p w n) (node ps u r w n) (nodeChoices ps t ks p w n)
+    unfolding eval nodeChoices
+    match-node {p} {r} A w n =
+        subst (λ (k : ℕ). Match m F (FitOf F w) (if ltb n k then eval fs (contentsOf p) v w n else wrong) (node ps u r w n) (nodeChoices ps t ks p w n))
+            (sym (R .first .count))
+        (subst (λ (k : ℕ). Match m F (FitOf F w) (if ltb n (t .nodes) then eval fs (contentsOf p) v w n else wrong)
+            (if ltb n k then eval ps (contentsOf r) u w n else wrong) (nodeChoices ps t ks p w n)) (sym (R .second .count))
+        (matches-if (ltb n (t .nodes)) (match-evalF R A (suc n) w n) matches-wrong))
+
+    match-out : (n : ℕ) → Match m F (λ q. Unit {0}) (pastEnd v n) (pastEnd u n) []
+    match-out n =
+        matches-are (same-out (R .first) n) (same-out (R .second) n) (matches-either (ltb (matchingEnd t n) (t .rows)) (match-give tt) matches-wrong)
+
+    plain-node : (p : State) → Plainly m [] → node fs v p ≡ node [] t p
+    plain-node p h = ap (λ qs. node qs v p) (no-places m ps h) ∙ ap (λ s. node [] s p) (R .itself h)
+
+    fit-value : (w : Ty) (x : Of w) → FitOf F w x → FitValue F (value w x)
+    fit-value bool x h = h
+    fit-value uint x h = h
+    fit-value pointer x h = h
+
+    tested : {p r : State} → L ks p r → (x : Bool) (e : End) → Moves extra (L ks) (if x then to (past p) else stop e) (if x then to (past r) else stop e)
+    tested A true e = both-to (linked-past A)
+    tested A false e = both-stop
+
+  module _ (small : (n : ℕ) → class ps n ≤ n + extra .perArray) (ks : List Bool) where
+    match-row : {p r : State} → L ks p r → (n : ℕ) (k : Row) → PlainRow t k (rowAt t n .a) → (b c : ℕ)
+        → Matches m F (Moves extra (L (heldAfter k (markedPointer t (rowAt t n .a)) ks)))
+            (rowRule fs v p n (rowIn m (us (rowAt t n .a)) (bs (rowAt t n .a)) k) (rowAt t n .a) b c)
+        (rowRule ps u r n (rowIn reduced (markedUint t (rowAt t n .a)) (markedPointer t (rowAt t n .a)) k) (rowAt t n .a) b c)
+            (rowChoices ps t ks p n k (rowAt t n .a) b c)
+    unfolding rowRule rowChoices
+    match-row A n skip h b c = matches-give (both-to (linked-past ks A))
+    match-row {p} {r} A n assign h b c =
+        rw (R .first .type (rowAt t n .a), R .second .type (rowAt t n .a))
+        (match-last (match-node ks A (typeAt t (rowAt t n .a)) b)
+        (λ x fx. matches-with (match-set ks A (rowAt t n .a) (value (typeAt t (rowAt t n .a)) x) (value (typeAt t (rowAt t n .a)) x)
+            (rw (only-none (us (rowAt t n .a)) (markedUint t (rowAt t n .a)) h) refl) (fit-value ks (typeAt t (rowAt t n .a)) x fx))
+        (λ p′ r′ A′. matches-give (both-to (linked-past ks A′)))))
+    match-row {p} {r} A n store h b c =
+        matches-are (store-acts fs v p n (rowAt t n .a) b c m (first-flat (R .closed) (R .uints) A)) refl
+        (listed (λ h. ap (λ (nd : (w : Ty) → ℕ → Work (Of w)). nodeChoices ps t ks p pointer (rowAt t n .a)
+            ++ given (nd pointer (rowAt t n .a) []) (λ x. nodeChoices ps t ks p uint b ++ given (nd uint b []) (λ y. storeChoices ps t ks p x)))
+            (plain-node ks p h))
+        (match-bind (match-node ks A pointer _) (λ x fx. match-bind (match-node ks A uint b) (λ y fy. match-write ks A (x .array) (x .place) y fx fy))))
+    match-row A n assert h b c = match-last (match-node ks A bool _) (λ x _. matches-give (tested ks A x assertFalse))
+    match-row A n assume h b c = match-last (match-node ks A bool _) (λ x _. matches-give (tested ks A x assumeFalse))
+    match-row {p} {r} A n array h b c =
+        matches-are (array-row fs v p n (rowAt t n .a) b c (bs (rowAt t n .a))) (array-row ps u r n (rowAt t n .a) b c (markedPointer t (rowAt t n .a)))
+        (match-last (match-node ks A uint b)
+            (λ l _. match-new ks small A _ l h (bs (rowAt t n .a)) (markedPointer t (rowAt t n .a)) (R .pointers (rowAt t n .a))))
+    match-row {p} {r} A n loop h b c =
+        matches-are (loop-row fs v p n (rowAt t n .a) b c (us (rowAt t n .a))) (loop-row ps u r n (rowAt t n .a) b c (markedUint t (rowAt t n .a)))
+        (listed (λ h. ap (λ (nd : (w : Ty) → ℕ → Work (Of w)). nodeChoices ps t ks p uint b
+            ++ given (nd uint b []) (λ x. nodeChoices ps t ks p uint c ++ given (nd uint c []) (λ y. loopChoices ps t ks p n x y))) (plain-node ks p h))
+        (match-bind (match-node ks A uint b) (λ x fx. match-bind (match-node ks A uint c) (λ y fy. match-loop ks A n loop h x y fx fy (match-out ks n)))))
+    match-row {p} {r} A n loopEnd h b c =
+        subst (λ (h : Position). Matches m F (Moves extra (L ks)) (repeatLoop fs v p (p .here .loops)) (repeatLoop ps u r (h .loops))
+            (repeatChoices ps t ks p (p .here .loops)))
+            (sym (A .here)) (match-repeat ks A (p .here .loops) (A .fitLoops))
+    match-row A n reducedStore h b c = absurd h
+    match-row A n reducedArray h b c = absurd h
+    match-row A n classLoop h b c = absurd h
+    match-row A n noRow h b c = matches-wrong
+
+    pub match-step : {p r : State} → L ks p r
+        → Matches m F (Moves extra (L (heldNext t (p .here .row) ks))) (step fs v p) (step ps u r) (stepChoices ps t ks p (p .here .row))
+    unfolding step stepChoices
+    match-step {p} {r} A =
+        subst (λ n. Matches m F (Moves extra (L (heldNext t (p .here .row) ks))) (step fs v p) (stepAt ps u r n) (stepChoices ps t ks p (p .here .row)))
+            (sym (ap (λ (h : Position). h .row) (A .here)))
+        (rw (R .first .kind here, R .first .a here, R .first .b here, R .first .c here)
+        (rw (R .second .kind here, R .second .a here, R .second .b here, R .second .c here)
+        (match-row A here (rowKind (rowAt t here .kind)) (R .kinds .row here) (rowAt t here .b) (rowAt t here .c))))
+      where
+        here : ℕ
+        here = p .here .row

@@ -1,27 +1,29 @@
 -- The reduction changes the kinds as the reduced machine expects, and nothing else.
 -- Assumes nothing.
 use mathlib.Core.Path.{_≡_, refl, sym, ap, _∙_, subst}
-use Prim.Native.Nat.{ℕ, zero, suc, _+_, _*_, _%_, _/_, _≤_, _<_}
+use Prim.Native.Nat.{ℕ, _+_, _*_, _%_, _/_, _≤_, _<_}
 use native.Mathlib.Decide.{decLe}
 use native.Mathlib.Omega.{arith}
-use mathlib.Core.Bool.{Bool, true, false, false≢true, _&&_}
-use mathlib.Core.List.{List, [], _∷_}
+use mathlib.Core.Bool.{Bool, true, false, _&&_}
+use mathlib.Core.List.{List}
 use lib.ListN.{length, getD, List·getD-eq-default}
 use lib.Dec.{eqb}
 use borrow.Author.Tests.{le-leb, lt-leb, eq-eqb, ne-eqb, eqb-true, ltb-true}
 use Rattle.lists.specs.If.{if_then_else_}
 use Rattle.lists.specs.Tab.{all}
+use Rattle.lists.proofs.BoolLaws.{and-left, and-right}
 use Rattle.lists.proofs.TabLaws.{all-at, at-tab, length-tab, same-sum}
 use Rattle.lists.proofs.CountLaws.{bit}
-use Rattle.model.specs.Table.{Node, Row, Table, Ty, count, isDeclaration, isNode, isRow, lineAt, marked, nodeAt, nodeKind, nodeKinds, rowAt, rowKind, rowKinds, tableOf, typeOf}
+use Rattle.model.specs.Table.{Node, Row, Table, Ty, count, isDeclaration, isNode, isRow, lineAt, marked, nodeKind, nodeKinds, rowKind, rowKinds}
+use Rattle.model.specs.Table.{tableOf, typeOf}
 use Rattle.model.specs.Table.Ty.{bool, uint, pointer}
-use Rattle.model.specs.Table.Node.{variable, uintConstant, boolConstant, cell, plus, minus, less, atMost, equal, conditional, valid, classVariable, reducedCell, reducedValid, noNode}
+use Rattle.model.specs.Table.Node.{variable, uintConstant, boolConstant, cell, plus, minus, less, atMost, equal, conditional, valid, classVariable}
+use Rattle.model.specs.Table.Node.{reducedCell, reducedValid, noNode}
 use Rattle.model.specs.Table.Row.{skip, assign, store, assert, assume, array, loop, loopEnd, reducedStore, reducedArray, classLoop, noRow}
 use Rattle.model.specs.State.MachineKind.{plain, reduced}
 use Rattle.model.specs.Reduce.{reduce, reducedKind, reducedWord}
 use Rattle.model.specs.Accepted.{known, tyNumber}
-use Rattle.model.proofs.MatchEval.{PlainNode, reducedNode}
-use Rattle.model.proofs.MatchStep.{PlainRow, ReducesRows, reducedRow}
+use Rattle.model.proofs.KindsIn.{Reduces, nodeIn, rowIn}
 
 -- a kind's number
 unfoldable pub nodeNumber : Node → ℕ
@@ -100,14 +102,16 @@ ty-back pointer = refl
 stays : (u q : Bool) (k : ℕ) → 43 ≤ k → reducedKind u q k ≡ k
 unfolding reducedKind
 stays u q k h =
-    simp (ne-eqb k 16 (λ e. omega arith), ne-eqb k 19 (λ e. omega arith), ne-eqb k 26 (λ e. omega arith), ne-eqb k 34 (λ e. omega arith), ne-eqb k 37 (λ e. omega arith), ne-eqb k 38 (λ e. omega arith))
+    simp (ne-eqb k 16 (λ e. omega arith), ne-eqb k 19 (λ e. omega arith), ne-eqb k 26 (λ e. omega arith), ne-eqb k 34 (λ e. omega arith), ne-eqb k 37
+        (λ e. omega arith), ne-eqb k 38 (λ e. omega arith))
 
 -- so does a declaration's kind
 pub declaration-stays : (u q : Bool) (k : ℕ) → isDeclaration k ≡ true → reducedKind u q k ≡ k
 unfolding reducedKind
 declaration-stays u q k e =
     let h : k < 16 = ltb-true k 16 e in
-    simp (ne-eqb k 16 (λ e. omega arith), ne-eqb k 19 (λ e. omega arith), ne-eqb k 26 (λ e. omega arith), ne-eqb k 34 (λ e. omega arith), ne-eqb k 37 (λ e. omega arith), ne-eqb k 38 (λ e. omega arith))
+    simp (ne-eqb k 16 (λ e. omega arith), ne-eqb k 19 (λ e. omega arith), ne-eqb k 26 (λ e. omega arith), ne-eqb k 34 (λ e. omega arith), ne-eqb k 37
+        (λ e. omega arith), ne-eqb k 38 (λ e. omega arith))
 
 pub no-node : (k : ℕ) → 43 ≤ k → nodeKind k ≡ noNode
 unfolding nodeKind
@@ -124,17 +128,12 @@ agree f g u q = all 43 (λ k. eqb (f u q k) (g u q k))
 abbrev agreeAll : (Bool → Bool → ℕ → ℕ) → (Bool → Bool → ℕ → ℕ) → Bool
 agreeAll f g = (agree f g true true && agree f g true false) && (agree f g false true && agree f g false false)
 
-pub and-left : (b c : Bool) → (b && c) ≡ true → b ≡ true
-and-left true c e = refl
-and-left false c e = e
-
-pub and-right : (b c : Bool) → (b && c) ≡ true → c ≡ true
-and-right true c e = e
-and-right false c e = absurd (false≢true e)
-
 -- ... agree, if they do so above
 by-kinds : (f g : Bool → Bool → ℕ → ℕ) → agreeAll f g ≡ true → ((u q : Bool) (k : ℕ) → 43 ≤ k → f u q k ≡ g u q k) → (u q : Bool) (k : ℕ) → f u q k ≡ g u q k
-by-kinds f g e h u q k = elim (decLe 43 k) [ yes l ↦ h u q k l | no l ↦ eqb-true (f u q k) (g u q k) (all-at 43 (λ i. eqb (f u q i) (g u q i)) (case u q) k (omega arith)) ]
+by-kinds f g e h u q k = elim (decLe 43 k) [
+  | yes l ↦ h u q k l
+  | no l ↦ eqb-true (f u q k) (g u q k) (all-at 43 (λ i. eqb (f u q i) (g u q i)) (case u q) k (omega arith))
+]
   where
     left : (agree f g true true && agree f g true false) ≡ true
     left = and-left (agree f g true true && agree f g true false) (agree f g false true && agree f g false false) e
@@ -154,22 +153,24 @@ bit-back true false e = absurd (omega arith)
 bit-back false true e = absurd (omega arith)
 bit-back false false e = refl
 
-node-numbers : (u q : Bool) (k : ℕ) → nodeNumber (nodeKind (reducedKind u q k)) ≡ nodeNumber (reducedNode u (nodeKind k))
+node-numbers : (u q : Bool) (k : ℕ) → nodeNumber (nodeKind (reducedKind u q k)) ≡ nodeNumber (nodeIn reduced u (nodeKind k))
 unfolding all nodeNumber nodeKind reducedKind
-node-numbers = by-kinds (λ u q k. nodeNumber (nodeKind (reducedKind u q k))) (λ u q k. nodeNumber (reducedNode u (nodeKind k))) refl (λ u q k h. rw (stays u q k h, no-node k h))
+node-numbers = by-kinds (λ u q k. nodeNumber (nodeKind (reducedKind u q k))) (λ u q k. nodeNumber (nodeIn reduced u (nodeKind k))) refl
+    (λ u q k h. rw (stays u q k h, no-node k h))
 
-row-numbers : (u q : Bool) (k : ℕ) → rowNumber (rowKind (reducedKind u q k)) ≡ rowNumber (reducedRow u q (rowKind k))
+row-numbers : (u q : Bool) (k : ℕ) → rowNumber (rowKind (reducedKind u q k)) ≡ rowNumber (rowIn reduced u q (rowKind k))
 unfolding all rowNumber rowKind reducedKind
-row-numbers = by-kinds (λ u q k. rowNumber (rowKind (reducedKind u q k))) (λ u q k. rowNumber (reducedRow u q (rowKind k))) refl (λ u q k h. rw (stays u q k h, no-row k h))
+row-numbers = by-kinds (λ u q k. rowNumber (rowKind (reducedKind u q k))) (λ u q k. rowNumber (rowIn reduced u q (rowKind k))) refl
+    (λ u q k h. rw (stays u q k h, no-row k h))
 
 type-numbers : (u q : Bool) (k : ℕ) → tyNumber (typeOf (reducedKind u q k)) ≡ tyNumber (typeOf k)
 unfolding all typeOf reducedKind
 type-numbers = by-kinds (λ u q k. tyNumber (typeOf (reducedKind u q k))) (λ u q k. tyNumber (typeOf k)) refl (λ u q k h. rw (stays u q k h))
 
-pub new-node : (u q : Bool) (k : ℕ) → nodeKind (reducedKind u q k) ≡ reducedNode u (nodeKind k)
+pub new-node : (u q : Bool) (k : ℕ) → nodeKind (reducedKind u q k) ≡ nodeIn reduced u (nodeKind k)
 new-node u q k = sym (node-back _) ∙ ap nodeKind (node-numbers u q k) ∙ node-back _
 
-pub new-row : (u q : Bool) (k : ℕ) → rowKind (reducedKind u q k) ≡ reducedRow u q (rowKind k)
+pub new-row : (u q : Bool) (k : ℕ) → rowKind (reducedKind u q k) ≡ rowIn reduced u q (rowKind k)
 new-row u q k = sym (row-back _) ∙ ap rowKind (row-numbers u q k) ∙ row-back _
 
 new-type : (u q : Bool) (k : ℕ) → typeOf (reducedKind u q k) ≡ typeOf k
@@ -209,7 +210,8 @@ implies b c = if b then c else true
 new-known : (u q : Bool) (k : ℕ) → bit (implies (known plain k) (known reduced (reducedKind u q k))) ≡ 1
 unfolding all known reducedKind
 new-known = by-kinds (λ u q k. bit (implies (known plain k) (known reduced (reducedKind u q k)))) (λ u q k. 1) refl
-    (λ u q k h. rw (lt-leb k 39 (omega arith), lt-leb k 26 (omega arith), lt-leb k 3 (omega arith), le-leb 1 k (omega arith), le-leb 16 k (omega arith), le-leb 32 k (omega arith)))
+    (λ u q k h. rw (lt-leb k 39 (omega arith), lt-leb k 26 (omega arith), lt-leb k 3 (omega arith), le-leb 1 k (omega arith), le-leb 16 k
+        (omega arith), le-leb 32 k (omega arith)))
 
 pub known-reduced : (u q : Bool) (k : ℕ) → known plain k ≡ true → known reduced (reducedKind u q k) ≡ true
 known-reduced u q k h = bit-back _ true (subst (λ b. bit (implies b (known reduced (reducedKind u q k))) ≡ 1) h (new-known u q k))
@@ -270,7 +272,8 @@ module _ (w : List ℕ) where
 
   same-count : (sort : ℕ → Bool) → ((u q : Bool) (k : ℕ) → bit (sort (reducedKind u q k)) ≡ bit (sort k)) → count sort (reduce w) ≡ count sort w
   same-count sort h = rw length-reduce
-      (same-sum (length w / 4) (λ i. bit (sort (lineAt (reduce w) i .kind))) (λ i. bit (sort (lineAt w i .kind))) (λ i l. ap (λ (k : ℕ). bit (sort k)) (reduce-kind i) ∙ h _ _ _))
+      (same-sum (length w / 4) (λ i. bit (sort (lineAt (reduce w) i .kind))) (λ i. bit (sort (lineAt w i .kind)))
+          (λ i l. ap (λ (k : ℕ). bit (sort k)) (reduce-kind i) ∙ h _ _ _))
 
 -- the reduction, as a table
 abbrev pub reducedTable : Table → Table
@@ -280,23 +283,21 @@ pub table-reduce : (w : List ℕ) → tableOf (reduce w) ≡ reducedTable (table
 unfolding tableOf
 table-reduce w = rw (same-count w isDeclaration new-declaration, same-count w isNode new-isNode, same-count w isRow new-isRow)
 
--- what a table's lines are reduced to
-module _ (t : Table) (nodes : (n : ℕ) → PlainNode (nodeKind (nodeAt t n .kind))) (rows : (n : ℕ) → PlainRow t (rowKind (rowAt t n .kind)) (rowAt t n .a)) where
-  pub reduces : ReducesRows t (reducedTable t)
-  reduces = record {
-    nodes = record {
-      plain = nodes;
-      kind = λ n. ap nodeKind (reduce-kind (t .words) (t .decls + n)) ∙ new-node _ _ _;
-      a = λ n. reduce-a (t .words) (t .decls + n);
-      b = λ n. reduce-b (t .words) (t .decls + n);
-      c = λ n. reduce-c (t .words) (t .decls + n);
-    };
-    rows = refl;
-    count = refl;
-    type = λ i. ap typeOf (reduce-kind (t .words) i) ∙ new-type _ _ _;
-    plain = rows;
-    kind = λ n. ap rowKind (reduce-kind (t .words) (t .decls + t .nodes + n)) ∙ new-row _ _ _;
-    a = λ n. reduce-a (t .words) (t .decls + t .nodes + n);
-    b = λ n. reduce-b (t .words) (t .decls + t .nodes + n);
-    c = λ n. reduce-c (t .words) (t .decls + t .nodes + n);
-  }
+pub reduces : (t : Table) → Reduces t (reducedTable t)
+reduces t = record {
+  nodes = record {
+    kind = λ n. ap nodeKind (reduce-kind (t .words) (t .decls + n)) ∙ new-node _ _ _;
+    a = λ n. reduce-a (t .words) (t .decls + n);
+    b = λ n. reduce-b (t .words) (t .decls + n);
+    c = λ n. reduce-c (t .words) (t .decls + n);
+  };
+  rows = refl;
+  count = refl;
+  decls = refl;
+  type = λ i. ap typeOf (reduce-kind (t .words) i) ∙ new-type _ _ _;
+  classes = same-markedUint (t .words);
+  kind = λ n. ap rowKind (reduce-kind (t .words) (t .decls + t .nodes + n)) ∙ new-row _ _ _;
+  a = λ n. reduce-a (t .words) (t .decls + t .nodes + n);
+  b = λ n. reduce-b (t .words) (t .decls + t .nodes + n);
+  c = λ n. reduce-c (t .words) (t .decls + t .nodes + n);
+}

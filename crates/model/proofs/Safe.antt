@@ -4,36 +4,53 @@ use mathlib.Core.Path.{_≡_, refl, sym, ap, _∙_, subst}
 use Prim.Native.Nat.{ℕ, zero, suc, _+_, _-_, _≤_, _<_}
 use native.Mathlib.Nat.{not-suc-le-zero}
 use native.Mathlib.Omega.{arith}
-use mathlib.Core.Bool.{Bool, true, false, false≢true}
-use mathlib.Core.List.{List, [], _∷_}
-use lib.ListN.{length, getD}
+use mathlib.Core.Bool.{Bool, true, false}
+use mathlib.Core.List.{List, [], _∷_, _++_, append-assoc}
+use lib.ListN.{length, getD, length-append}
 use lib.Dec.{ltb, leb, eqb}
 use borrow.Author.Tests.{ltb-true, lt-ltb, le-leb}
 use Rattle.lists.specs.If.{if_then_else_}
-use Rattle.model.specs.Table.{Node, Table, Ty, nodeAt, nodeKind, typeAt}
+use Rattle.model.specs.Table.{Node, Table, Ty, nodeAt, nodeKind, typeAt, most}
 use Rattle.model.specs.Table.Ty.{bool, uint, pointer}
-use Rattle.model.specs.Table.Node.{variable, uintConstant, boolConstant, cell, plus, minus, less, atMost, equal, conditional, valid, classVariable, reducedCell, reducedValid, noNode}
+use Rattle.model.specs.Table.Node.{variable, uintConstant, boolConstant, cell, plus, minus, less, atMost, equal, conditional, valid, classVariable}
+use Rattle.model.specs.Table.Node.{reducedCell, reducedValid, noNode}
 use Rattle.model.specs.Work.{Out, Work, _>>=_, choose, fail, give, next}
 use Rattle.model.specs.Work.Out.{gives, fails, badChoice, noChoice, stuck}
-use Rattle.model.specs.State.{MachineKind, State, Value, classed, most}
+use Rattle.model.specs.State.{MachineKind, State, Value, classed}
 use Rattle.model.specs.State.MachineKind.{plain, reduced}
 use Rattle.model.specs.State.Value.{Uint}
-use Rattle.model.specs.Eval.{Of, Ptr, add, arrayOf, asClass, below, bools, cellOf, compare, eval, evalF, isValid, keeps, load, ofType, present, reducedLoad, rule, sizeOf, storeOf, subtract, sumOrDifference, uints, value, variableOf}
+use Rattle.model.specs.Eval.{Of, Ptr, add, arrayOf, asClass, below, bools, cellOf, compare, eval, evalF, isValid, keeps, load, ofType, present}
+use Rattle.model.specs.Eval.{reducedLoad, rule, sizeOf, contentsOf, subtract, sumOrDifference, uints, value, variableOf}
 use Rattle.model.specs.Agree.{arrayAt}
 use Rattle.model.specs.Accepted.{Accepted, HasType, Holds, Laid, nodeType, tyNumber}
-use Rattle.model.specs.Demand3.{Leaves, TakesChoices}
-use Rattle.model.proofs.Match.{left}
+use Rattle.model.specs.Demand3.{Leaves, TakesChoices, usedOf}
 use Rattle.model.proofs.Memory.{inside}
 use Rattle.model.proofs.Keep.{index-in}
 use Rattle.model.proofs.Typing.{Fits, Moving, node-fits}
 
+-- ---- choices taken and left
+
+taken-used : (cs xs ds : List ℕ) → cs ≡ xs ++ ds → usedOf cs ds ≡ length xs
+taken-used cs xs ds e = omega (arith, simp length-append at (ap length e))
+
+taking : {m : MachineKind} {cs ds : List ℕ} (xs : List ℕ) → cs ≡ xs ++ ds → (m ≡ plain → xs ≡ []) → Leaves m cs ds
+taking {cs = cs} {ds = ds} xs e none = record { taken = xs; split = e; used = taken-used cs xs ds e; plainNone = none }
+
 pub leaves-all : (m : MachineKind) (cs : List ℕ) → Leaves m cs cs
-leaves-all plain cs = refl
-leaves-all reduced cs = tt
+leaves-all m cs = taking [] refl (λ e. refl)
 
 pub leaves-then : (m : MachineKind) (cs ds es : List ℕ) → Leaves m cs ds → Leaves m ds es → Leaves m cs es
-leaves-then plain cs ds es x y = y ∙ x
-leaves-then reduced cs ds es x y = tt
+leaves-then m cs ds es x y =
+    taking (x .taken ++ y .taken) (x .split ∙ ap (λ l. x .taken ++ l) (y .split) ∙ sym (append-assoc (x .taken) (y .taken) es))
+    (λ e. rw (x .plainNone e, y .plainNone e))
+
+-- one is taken
+leaves-tail : (c : ℕ) (cs : List ℕ) → Leaves reduced (c ∷ cs) cs
+leaves-tail c cs = taking (c ∷ []) refl (λ e. absurd (let z : _≡_ {A = ℕ} 0 1 = cc in omega arith))
+
+-- the plain machine leaves every choice
+pub leaves-plain : {cs left : List ℕ} → Leaves plain cs left → left ≡ cs
+leaves-plain {left = left} x = sym (x .split ∙ ap (λ l. l ++ left) (x .plainNone refl))
 
 pub takes-is : {m : MachineKind} → m ≡ reduced → TakesChoices m
 takes-is e = subst TakesChoices (sym e) tt
@@ -55,11 +72,13 @@ safe-give {m} h = record { held = λ cs. (h, leaves-all m cs) }
 pub safe-fail : {m : MachineKind} {A : Type 0} {P : A → Type 0} → Safe m P (fail {A = A})
 safe-fail {m} = record { held = λ cs. leaves-all m cs }
 
-pub safe-if : {m : MachineKind} {A : Type 0} {P : A → Type 0} (b : Bool) {v w : Work A} → (b ≡ true → Safe m P v) → (b ≡ false → Safe m P w) → Safe m P (if b then v else w)
+pub safe-if : {m : MachineKind} {A : Type 0} {P : A → Type 0} (b : Bool) {v w : Work A} → (b ≡ true → Safe m P v) → (b ≡ false → Safe m P w)
+    → Safe m P (if b then v else w)
 safe-if true x y = x refl
 safe-if false x y = y refl
 
-pub safe-bind : {m : MachineKind} {A B : Type 0} {P : A → Type 0} {Q : B → Type 0} {w : Work A} {k : A → Work B} → Safe m P w → ((a : A) → P a → Safe m Q (k a)) → Safe m Q (w >>= k)
+pub safe-bind : {m : MachineKind} {A B : Type 0} {P : A → Type 0} {Q : B → Type 0} {w : Work A} {k : A → Work B} → Safe m P w
+    → ((a : A) → P a → Safe m Q (k a)) → Safe m Q (w >>= k)
 safe-bind {m} {A} {B} {P} {Q} {w} {k} x y = record { held = λ cs. go cs (w cs) (x .held cs) }
   where
     then-held : (cs left : List ℕ) → Leaves m cs left → (o : Out B) → Held m Q left o → Held m Q cs o
@@ -90,7 +109,7 @@ pub safe-choose : {m : MachineKind} → m ≡ reduced → (ok : ℕ → Bool) �
 safe-choose {m} e ok = subst (λ m. Safe m (λ v. ok v ≡ true) (choose ok)) (sym e) (record { held = go })
   where
     pick : (b : Bool) (c : ℕ) (cs : List ℕ) → ok c ≡ b → Held reduced (λ v. ok v ≡ true) (c ∷ cs) (if b then gives c cs else badChoice)
-    pick true c cs e = (e, tt)
+    pick true c cs e = (e, leaves-tail c cs)
     pick false c cs e = tt
 
     go : (cs : List ℕ) → Held reduced (λ v. ok v ≡ true) cs (choose ok cs)
@@ -159,7 +178,8 @@ module _ (ps : List ℕ) (m : MachineKind) (t : Table) (s : State) (S : Sound ps
   safe-array zero h = safe-fail
   safe-array (suc i) h = rw (lt-ltb i (length (s .arrays)) h) (safe-give (i, h, refl))
 
-  safe-cell : (k j : ℕ) → k < length (s .arrays) → j < sizeOf ps (arrayAt (s .arrays) k) → Safe m (λ x. Unit {0}) (cellOf ps (s .cells) (arrayAt (s .arrays) k) j)
+  safe-cell : (k j : ℕ) → k < length (s .arrays) → j < sizeOf ps (arrayAt (s .arrays) k)
+      → Safe m (λ x. Unit {0}) (cellOf ps (s .cells) (arrayAt (s .arrays) k) j)
   safe-cell k j h l = rw (lt-ltb _ _ l, lt-ltb _ _ (inside ps (S .laid) k h j l)) (safe-give tt)
 
   safe-load : m ≡ plain → (x : Ptr) → x .array ≤ length (s .arrays) → Safe m (λ x. Unit {0}) (load ps (s .arrays) (s .cells) x)
@@ -185,7 +205,7 @@ module _ (ps : List ℕ) (m : MachineKind) (t : Table) (s : State) (S : Sound ps
   module _ (ty : ℕ → Ty) where
     safe-rule : (w : Ty) (k : Node) (a b c n : ℕ) → Fits m t ty k a b c n → ty n ≡ w → (ev : (v : Ty) → ℕ → Work (Of v))
         → ((v : Ty) (o : ℕ) → o < n → ty o ≡ v → Safe m (Good (length (s .arrays)) v) (ev v o))
-        → Safe m (Good (length (s .arrays)) w) (rule ps (storeOf s) w k a b c ev)
+        → Safe m (Good (length (s .arrays)) w) (rule ps (contentsOf s) w k a b c ev)
     unfolding rule
     safe-rule w variable a b c n f e ev ih = safe-bind (safe-variable a (f .0) false (f .1)) (λ v h. safe-ofType _ w v (rw (f .2 ∙ e) at h))
     safe-rule w uintConstant a b c n f e ev ih = safe-uints _ w (f ∙ e) (safe-give tt)
@@ -196,10 +216,12 @@ module _ (ps : List ℕ) (m : MachineKind) (t : Table) (s : State) (S : Sound ps
     safe-rule w less a b c n f e ev ih = safe-bools _ w (f .4 ∙ e) (safe-compare ltb (ih uint a (f .0) (f .2)) (ih uint b (f .1) (f .3)))
     safe-rule w atMost a b c n f e ev ih = safe-bools _ w (f .4 ∙ e) (safe-compare leb (ih uint a (f .0) (f .2)) (ih uint b (f .1) (f .3)))
     safe-rule w equal a b c n f e ev ih = safe-bools _ w (f .4 ∙ e) (safe-compare eqb (ih uint a (f .0) (f .2)) (ih uint b (f .1) (f .3)))
-    safe-rule w conditional a b c n f e ev ih = safe-bind (ih bool a (f .0) (f .3)) (λ x _. safe-if x (λ _. ih w b (f .1) (f .4 ∙ e)) (λ _. ih w c (f .2) (f .5 ∙ e)))
+    safe-rule w conditional a b c n f e ev ih = safe-bind (ih bool a (f .0) (f .3))
+        (λ x _. safe-if x (λ _. ih w b (f .1) (f .4 ∙ e)) (λ _. ih w c (f .2) (f .5 ∙ e)))
     safe-rule w valid a b c n f e ev ih = safe-bools _ w (f .2 ∙ e) (safe-bind (ih pointer a (f .0) (f .1)) (λ x. safe-valid (x .array) (x .place)))
     safe-rule w classVariable a b c n f e ev ih =
-        safe-uints _ w (f .2 ∙ e) (safe-bind (safe-bind (safe-variable a (f .0) true (f .1)) (safe-asClass (length (s .arrays)))) (λ k _. safe-any (safe-choose (f .3) _)))
+        safe-uints _ w (f .2 ∙ e)
+            (safe-bind (safe-bind (safe-variable a (f .0) true (f .1)) (safe-asClass (length (s .arrays)))) (λ k _. safe-any (safe-choose (f .3) _)))
     safe-rule w reducedCell a b c n f e ev ih = safe-uints _ w (f .2 ∙ e) (safe-bind (ih pointer a (f .0) (f .1)) (safe-reducedLoad (f .3)))
     safe-rule w reducedValid a b c n f e ev ih = safe-bools _ w (f .2 ∙ e) (safe-bind (ih pointer a (f .0) (f .1)) (λ x. safe-valid (x .array) (x .place)))
     safe-rule w noNode a b c n f e ev ih = absurd f
@@ -210,14 +232,14 @@ module _ (ps : List ℕ) (m : MachineKind) (t : Table) (s : State) (S : Sound ps
     safe-present pointer x g = rw (le-leb (x .array) (length (s .arrays)) g) (safe-give g)
 
     safe-evalF : ((n : ℕ) → n < t .nodes → Fits m t ty (nodeKind (nodeAt t n .kind)) (nodeAt t n .a) (nodeAt t n .b) (nodeAt t n .c) n)
-        → (f : ℕ) (w : Ty) (n : ℕ) → n < f → n < t .nodes → ty n ≡ w → Safe m (Good (length (s .arrays)) w) (evalF ps (storeOf s) t f w n)
+        → (f : ℕ) (w : Ty) (n : ℕ) → n < f → n < t .nodes → ty n ≡ w → Safe m (Good (length (s .arrays)) w) (evalF ps (contentsOf s) t f w n)
     unfolding evalF
     safe-evalF F zero w n h k e = absurd (not-suc-le-zero h)
     safe-evalF F (suc f) w n h k e =
-        safe-bind (safe-rule w (nodeKind (nodeAt t n .kind)) (nodeAt t n .a) (nodeAt t n .b) (nodeAt t n .c) n (F n k) e (below n (evalF ps (storeOf s) t f))
+        safe-bind (safe-rule w (nodeKind (nodeAt t n .kind)) (nodeAt t n .a) (nodeAt t n .b) (nodeAt t n .c) n (F n k) e (below n (evalF ps (contentsOf s) t f))
         (λ v o l q. rw (lt-ltb o n l) (safe-evalF F f v o (omega arith) (omega arith) q))) (safe-present w)
 
   -- a node that has the type its user takes
-  pub safe-eval : Accepted m t → (w : Ty) (n : ℕ) → n < t .nodes → nodeType t n ≡ w → Safe m (Good (length (s .arrays)) w) (eval ps (storeOf s) t w n)
+  pub safe-eval : Accepted m t → (w : Ty) (n : ℕ) → n < t .nodes → nodeType t n ≡ w → Safe m (Good (length (s .arrays)) w) (eval ps (contentsOf s) t w n)
   unfolding eval
   safe-eval A w n k e = safe-evalF (nodeType t) (node-fits m t A) (suc n) w n (omega arith) k e

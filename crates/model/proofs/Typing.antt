@@ -1,30 +1,34 @@
 -- What the tests of an accepted table say of each node and each row, in the form in which the theory uses it.
 -- Assumes nothing.
 use mathlib.Core.Path.{_≡_, refl, sym, ap, _∙_, subst}
-use Prim.Native.Nat.{ℕ, zero, suc, _+_, _*_, _≤_, _<_}
+use Prim.Native.Nat.{ℕ, _+_, _*_, _≤_, _<_}
 use native.Mathlib.Decide.{decLe}
 use native.Mathlib.Omega.{arith}
 use mathlib.Core.Bool.{Bool, true, false, not, _&&_, false≢true, true≢false}
 use mathlib.Core.List.{List, [], _∷_}
-use lib.ListN.{length, getD, List·getD-eq-default}
-use lib.Dec.{ltb, eqb}
-use borrow.Author.Tests.{ltb-true, lt-ltb, eqb-true}
+use lib.ListN.{List·getD-eq-default}
+use lib.Dec.{ltb, leb, eqb}
+use borrow.Author.Tests.{ltb-true, lt-ltb, leb-false, eqb-true, not-true}
 use Rattle.lists.specs.If.{if_then_else_}
 use Rattle.lists.specs.Tab.{all}
 use Rattle.lists.proofs.TabLaws.{all-at}
 use Rattle.lists.proofs.FallingLaws.{value-is}
-use Rattle.model.specs.Table.{Nest, Node, Row, Table, Ty, declAt, lineAt, lines, marked, markedPointer, markedUint, nestAt, nodeAt, nodeKind, nodeRoles, openAt, rowAt, rowKind, rowRoles, typeAt, typeOf}
+use Rattle.model.specs.Table.{Nest, Node, Row, Table, Ty, declAt, lineAt, lineCount, marked, markedPointer, markedUint, nestAt, nodeAt, nodeKind}
+use Rattle.model.specs.Table.{matchingEnd, nodeRoles, openAt, rowAt, rowKind, rowRoles, typeAt, typeOf}
 use Rattle.model.specs.Table.Ty.{bool, uint, pointer}
-use Rattle.model.specs.Table.Node.{variable, uintConstant, boolConstant, cell, plus, minus, less, atMost, equal, conditional, valid, classVariable, reducedCell, reducedValid, noNode}
+use Rattle.model.specs.Table.Node.{variable, uintConstant, boolConstant, cell, plus, minus, less, atMost, equal, conditional, valid, classVariable}
+use Rattle.model.specs.Table.Node.{reducedCell, reducedValid, noNode}
 use Rattle.model.specs.Table.Row.{skip, assign, store, assert, assume, array, loop, loopEnd, reducedStore, reducedArray, classLoop, noRow}
 use Rattle.model.specs.Table.Nest.{opens, closes, neither}
 use Rattle.model.specs.State.{MachineKind, classed}
 use Rattle.model.specs.State.MachineKind.{plain, reduced}
-use Rattle.model.specs.Accepted.{Accepted, allThere, endsOpen, isReduced, known, nodeSuits, nodeSuitsMark, nodeThere, nodeType, nodeTyped, noneOpen, rowOpened, rowSuits, rowSuitsMark, rowThere, rowTyped, sameTy, tyNumber, typeBy, typedNode, typedRow}
+use Rattle.model.specs.Accepted.{Accepted, allThere, isReduced, known, misnested, nestBreaks, nodeSuits, nodeSuitsMark, nodeThere, nodeType, nodeTyped}
+use Rattle.model.specs.Accepted.{rowSuits, rowSuitsMark, rowThere, rowTyped, sameTy, tyNumber, typeBy, typedNode, typedRow}
 use Rattle.model.proofs.Nested.{Nested}
-use Rattle.model.proofs.MatchEval.{PlainNode}
-use Rattle.model.proofs.MatchStep.{PlainRow}
-use Rattle.model.proofs.ReduceLaws.{and-left, and-right, no-node, no-row, ty-back}
+use Rattle.model.proofs.KindsIn.{PlainNode, PlainRow}
+use Rattle.model.proofs.Closed.{none-open}
+use Rattle.lists.proofs.BoolLaws.{and-left, and-right}
+use Rattle.model.proofs.ReduceLaws.{no-node, no-row, ty-back}
 
 -- a uint or a pointer
 abbrev pub Moving : Ty → Type 0
@@ -61,7 +65,8 @@ RowFits m t ty loop a b c = (b < t .nodes) × (c < t .nodes) × (ty b ≡ uint) 
 RowFits m t ty loopEnd a b c = Unit {0}
 RowFits m t ty reducedStore a b c = (a < t .nodes) × (b < t .nodes) × (ty a ≡ pointer) × (ty b ≡ uint) × (m ≡ reduced)
 RowFits m t ty reducedArray a b c = (a < t .decls) × (b < t .nodes) × (ty b ≡ uint) × (typeAt t a ≡ pointer) × (classed m t a ≡ false) × (m ≡ reduced)
-RowFits m t ty classLoop a b c = (b < t .nodes) × (c < t .nodes) × (ty b ≡ uint) × (ty c ≡ uint) × (a < t .decls) × (typeAt t a ≡ uint) × (classed m t a ≡ true) × (m ≡ reduced)
+RowFits m t ty classLoop a b c = (b < t .nodes) × (c < t .nodes) × (ty b ≡ uint) × (ty c ≡ uint) × (a < t .decls) × (typeAt t a ≡ uint)
+    × (classed m t a ≡ true) × (m ≡ reduced)
 RowFits m t ty noRow a b c = ⊥
 
 -- ---- from Bools
@@ -73,10 +78,6 @@ is-moving : (v : Ty) → not (sameTy v bool) ≡ true → Moving v
 is-moving bool e = false≢true e
 is-moving uint e = tt
 is-moving pointer e = tt
-
-pub not-true : (b : Bool) → not b ≡ true → b ≡ false
-not-true true e = absurd (false≢true e)
-not-true false e = refl
 
 -- three tests in a row
 three : (x y z : Bool) → (x && (y && z)) ≡ true → (x ≡ true) × (y ≡ true) × (z ≡ true)
@@ -154,13 +155,15 @@ implied b c e h = rw h at e
 has-node : (m : MachineKind) (k : ℕ) → known m k ≡ true → hasNode (isReduced m) (nodeKind k) ≡ true
 has-node m k h = elim (decLe 43 k) [
   | yes l ↦ rw (no-node k l) refl
-  | no l ↦ implied (known m k) (hasNode (isReduced m) (nodeKind k)) (all-at 43 (λ k. implies (known m k) (hasNode (isReduced m) (nodeKind k))) (has-nodes m) k (omega arith)) h
+  | no l ↦ implied (known m k) (hasNode (isReduced m) (nodeKind k))
+      (all-at 43 (λ k. implies (known m k) (hasNode (isReduced m) (nodeKind k))) (has-nodes m) k (omega arith)) h
 ]
 
 has-row : (m : MachineKind) (k : ℕ) → known m k ≡ true → hasRow (isReduced m) (rowKind k) ≡ true
 has-row m k h = elim (decLe 43 k) [
   | yes l ↦ rw (no-row k l) refl
-  | no l ↦ implied (known m k) (hasRow (isReduced m) (rowKind k)) (all-at 43 (λ k. implies (known m k) (hasRow (isReduced m) (rowKind k))) (has-rows m) k (omega arith)) h
+  | no l ↦ implied (known m k) (hasRow (isReduced m) (rowKind k))
+      (all-at 43 (λ k. implies (known m k) (hasRow (isReduced m) (rowKind k))) (has-rows m) k (omega arith)) h
 ]
 
 is-plain : (m : MachineKind) → not (isReduced m) ≡ true → m ≡ plain
@@ -182,7 +185,8 @@ module _ (m : MachineKind) (t : Table) (ty : ℕ → Ty) where
       → (a < n) × (b < n) × (ty a ≡ uint) × (ty b ≡ uint) × (bool ≡ ty n)
   compared a b n y z q =
       let h = three (ltb a n) (ltb b n) true y in
-      (ltb-true a n (h .0), ltb-true b n (h .1), same-ty _ _ (and-left (sameTy (ty a) uint) (sameTy (ty b) uint) z), same-ty _ _ (and-right (sameTy (ty a) uint) (sameTy (ty b) uint) z), q)
+      (ltb-true a n (h .0), ltb-true b n (h .1), same-ty _ _ (and-left (sameTy (ty a) uint) (sameTy (ty b) uint) z), same-ty _ _
+          (and-right (sameTy (ty a) uint) (sameTy (ty b) uint) z), q)
 
   -- g: the types of the nodes below n
   fits : (k : Node) (a b c n : ℕ) (g : ℕ → Ty) → ((j : ℕ) → j < n → g j ≡ ty j) → typeBy (typeAt t) k a b g ≡ ty n
@@ -197,12 +201,14 @@ module _ (m : MachineKind) (t : Table) (ty : ℕ → Ty) where
       let h = three (ltb a n) (ltb b n) true y in
       let l : a < n = ltb-true a n (h .0) in
       let p : ty a ≡ ty n = sym (e a l) ∙ q in
-      (l, ltb-true b n (h .1), p, subst Moving p (is-moving (ty a) (and-left (not (sameTy (ty a) bool)) (sameTy (ty b) uint) z)), same-ty _ _ (and-right (not (sameTy (ty a) bool)) (sameTy (ty b) uint) z))
+      (l, ltb-true b n (h .1), p, subst Moving p (is-moving (ty a) (and-left (not (sameTy (ty a) bool)) (sameTy (ty b) uint) z)), same-ty _ _
+          (and-right (not (sameTy (ty a) bool)) (sameTy (ty b) uint) z))
   fits minus a b c n g e q x y z u =
       let h = three (ltb a n) (ltb b n) true y in
       let l : a < n = ltb-true a n (h .0) in
       let p : ty a ≡ ty n = sym (e a l) ∙ q in
-      (l, ltb-true b n (h .1), p, subst Moving p (is-moving (ty a) (and-left (not (sameTy (ty a) bool)) (sameTy (ty b) uint) z)), same-ty _ _ (and-right (not (sameTy (ty a) bool)) (sameTy (ty b) uint) z))
+      (l, ltb-true b n (h .1), p, subst Moving p (is-moving (ty a) (and-left (not (sameTy (ty a) bool)) (sameTy (ty b) uint) z)), same-ty _ _
+          (and-right (not (sameTy (ty a) bool)) (sameTy (ty b) uint) z))
   fits less a b c n g e q x y z u = compared a b n y z q
   fits atMost a b c n g e q x y z u = compared a b n y z q
   fits equal a b c n g e q x y z u = compared a b n y z q
@@ -210,9 +216,11 @@ module _ (m : MachineKind) (t : Table) (ty : ℕ → Ty) where
       let h = three (ltb a n) (ltb b n) (ltb c n) y in
       let l : b < n = ltb-true b n (h .1) in
       let p : ty b ≡ ty n = sym (e b l) ∙ q in
-      (ltb-true a n (h .0), l, ltb-true c n (h .2), same-ty _ _ (and-left (sameTy (ty a) bool) (sameTy (ty b) (ty c)) z), p, sym (same-ty _ _ (and-right (sameTy (ty a) bool) (sameTy (ty b) (ty c)) z)) ∙ p)
+      (ltb-true a n (h .0), l, ltb-true c n (h .2), same-ty _ _ (and-left (sameTy (ty a) bool) (sameTy (ty b) (ty c)) z), p, sym
+          (same-ty _ _ (and-right (sameTy (ty a) bool) (sameTy (ty b) (ty c)) z)) ∙ p)
   fits valid a b c n g e q x y z u = (ltb-true a n (three (ltb a n) true true y .0), same-ty _ _ z, q)
-  fits classVariable a b c n g e q x y z u = (ltb-true a (t .decls) (three (ltb a (t .decls)) true true y .0), classed-is m t a x u, sym (marked-uint t a u) ∙ q, is-reduced m x)
+  fits classVariable a b c n g e q x y z u =
+      (ltb-true a (t .decls) (three (ltb a (t .decls)) true true y .0), classed-is m t a x u, sym (marked-uint t a u) ∙ q, is-reduced m x)
   fits reducedCell a b c n g e q x y z u = (ltb-true a n (three (ltb a n) true true y .0), same-ty _ _ z, q, is-reduced m x)
   fits reducedValid a b c n g e q x y z u = (ltb-true a n (three (ltb a n) true true y .0), same-ty _ _ z, q)
   fits noNode a b c n g e q x y z u = false≢true z
@@ -221,23 +229,27 @@ module _ (m : MachineKind) (t : Table) (ty : ℕ → Ty) where
       → (a < t .nodes) × (b < t .nodes) × (ty a ≡ pointer) × (ty b ≡ uint)
   stored a b y z =
       let h = three (ltb a (t .nodes)) (ltb b (t .nodes)) true y in
-      (ltb-true a (t .nodes) (h .0), ltb-true b (t .nodes) (h .1), same-ty _ _ (and-left (sameTy (ty a) pointer) (sameTy (ty b) uint) z), same-ty _ _ (and-right (sameTy (ty a) pointer) (sameTy (ty b) uint) z))
+      (ltb-true a (t .nodes) (h .0), ltb-true b (t .nodes) (h .1), same-ty _ _ (and-left (sameTy (ty a) pointer) (sameTy (ty b) uint) z), same-ty _ _
+          (and-right (sameTy (ty a) pointer) (sameTy (ty b) uint) z))
 
   laid-out : (a b : ℕ) → (ltb a (t .decls) && (ltb b (t .nodes) && true)) ≡ true → (sameTy (typeAt t a) pointer && sameTy (ty b) uint) ≡ true
       → (a < t .decls) × (b < t .nodes) × (ty b ≡ uint) × (typeAt t a ≡ pointer) × (classed m t a ≡ false)
   laid-out a b y z =
       let h = three (ltb a (t .decls)) (ltb b (t .nodes)) true y in
       let p : typeAt t a ≡ pointer = same-ty _ _ (and-left (sameTy (typeAt t a) pointer) (sameTy (ty b) uint) z) in
-      (ltb-true a (t .decls) (h .0), ltb-true b (t .nodes) (h .1), same-ty _ _ (and-right (sameTy (typeAt t a) pointer) (sameTy (ty b) uint) z), p, classed-none m t a (pointer-unmarked t a p))
+      (ltb-true a (t .decls) (h .0), ltb-true b (t .nodes) (h .1), same-ty _ _
+          (and-right (sameTy (typeAt t a) pointer) (sameTy (ty b) uint) z), p, classed-none m t a (pointer-unmarked t a p))
 
-  looped : (a b c : ℕ) (d : Bool) → (ltb a (t .decls) && (ltb b (t .nodes) && ltb c (t .nodes))) ≡ true → (sameTy (typeAt t a) uint && (sameTy (ty b) uint && sameTy (ty c) uint)) ≡ true
+  looped : (a b c : ℕ) (d : Bool) → (ltb a (t .decls) && (ltb b (t .nodes) && ltb c (t .nodes))) ≡ true
+      → (sameTy (typeAt t a) uint && (sameTy (ty b) uint && sameTy (ty c) uint)) ≡ true
       → classed m t a ≡ d → (b < t .nodes) × (c < t .nodes) × (ty b ≡ uint) × (ty c ≡ uint) × (a < t .decls) × (typeAt t a ≡ uint) × (classed m t a ≡ d)
   looped a b c d y z u =
       let h = three (ltb a (t .decls)) (ltb b (t .nodes)) (ltb c (t .nodes)) y in
       let p = three (sameTy (typeAt t a) uint) (sameTy (ty b) uint) (sameTy (ty c) uint) z in
       (ltb-true b (t .nodes) (h .1), ltb-true c (t .nodes) (h .2), same-ty _ _ (p .1), same-ty _ _ (p .2), ltb-true a (t .decls) (h .0), same-ty _ _ (p .0), u)
 
-  row-fits : (k : Row) (a b c : ℕ) → hasRow (isReduced m) k ≡ true → allThere (rowRoles k) (t .decls) (t .nodes) (record { kind = 0; a = a; b = b; c = c }) ≡ true
+  row-fits : (k : Row) (a b c : ℕ) → hasRow (isReduced m) k ≡ true
+      → allThere (rowRoles k) (t .decls) (t .nodes) (record { kind = 0; a = a; b = b; c = c }) ≡ true
       → typedRow (typeAt t) ty k a b c ≡ true → rowSuits (isReduced m) k (markedUint t a) (markedPointer t a) ≡ true → RowFits m t ty k a b c
   unfolding rowRoles
   row-fits skip a b c x y z u = tt
@@ -257,33 +269,37 @@ module _ (m : MachineKind) (t : Table) (ty : ℕ → Ty) where
 
 -- ---- of an accepted table
 
-none-is : (os : List ℕ) → noneOpen os ≡ true → os ≡ []
-none-is [] h = refl
-none-is (o ∷ os) h = absurd (false≢true h)
+-- 11: an end has an open loop, and a loop an end
+some-is : (n : Nest) (os : List ℕ) (d : Bool) → nestBreaks n os d ≡ false → n ≡ closes → (o : ℕ) × (rest : List ℕ) × (os ≡ o ∷ rest)
+some-is opens os d h e = absurd (let z : _≡_ {A = ℕ} 0 1 = cc in omega arith)
+some-is closes [] d h e = absurd (true≢false h)
+some-is closes (o ∷ os) d h e = (o, os, refl)
+some-is neither os d h e = absurd (let z : _≡_ {A = ℕ} 0 1 = cc in omega arith)
 
-some-is : (n : Nest) (os : List ℕ) → endsOpen n os ≡ true → n ≡ closes → (o : ℕ) × (rest : List ℕ) × (os ≡ o ∷ rest)
-some-is opens os h e = absurd (let z : _≡_ {A = ℕ} 0 1 = cc in omega arith)
-some-is closes [] h e = absurd (false≢true h)
-some-is closes (o ∷ os) h e = (o, os, refl)
-some-is neither os h e = absurd (let z : _≡_ {A = ℕ} 0 1 = cc in omega arith)
+closed-is : (n : Nest) (os : List ℕ) (d : Bool) → nestBreaks n os d ≡ false → n ≡ opens → d ≡ false
+closed-is opens os true h e = h
+closed-is opens os false h e = refl
+closed-is closes os d h e = absurd (let z : _≡_ {A = ℕ} 0 1 = cc in omega arith)
+closed-is neither os d h e = absurd (let z : _≡_ {A = ℕ} 0 1 = cc in omega arith)
 
 module _ (m : MachineKind) (t : Table) (A : Accepted m t) where
   -- a line past the end is no line
-  no-line : (i : ℕ) → lines t ≤ i → lineAt (t .words) i .kind ≡ 0
+  pub no-line : (i : ℕ) → lineCount t ≤ i → lineAt (t .words) i .kind ≡ 0
   no-line i h = List·getD-eq-default (t .words) 0 {n = 4 * i} (omega (arith, A .whole))
 
-  line-known : (i : ℕ) → i < lines t → known m (lineAt (t .words) i .kind) ≡ true
-  line-known i h = all-at (lines t) (λ i. known m (lineAt (t .words) i .kind)) (A .kinds) i h
+  line-known : (i : ℕ) → i < lineCount t → known m (lineAt (t .words) i .kind) ≡ true
+  line-known i h = all-at (lineCount t) (λ i. known m (lineAt (t .words) i .kind)) (A .kinds) i h
 
   line-node : (i : ℕ) → hasNode (isReduced m) (nodeKind (lineAt (t .words) i .kind)) ≡ true
   unfolding nodeKind
-  line-node i = elim (decLe (lines t) i) [ yes h ↦ rw (no-line i h) refl | no h ↦ has-node m (lineAt (t .words) i .kind) (line-known i (omega arith)) ]
+  line-node i = elim (decLe (lineCount t) i) [ yes h ↦ rw (no-line i h) refl | no h ↦ has-node m (lineAt (t .words) i .kind) (line-known i (omega arith)) ]
 
   line-row : (i : ℕ) → hasRow (isReduced m) (rowKind (lineAt (t .words) i .kind)) ≡ true
   unfolding rowKind
-  line-row i = elim (decLe (lines t) i) [ yes h ↦ rw (no-line i h) refl | no h ↦ has-row m (lineAt (t .words) i .kind) (line-known i (omega arith)) ]
+  line-row i = elim (decLe (lineCount t) i) [ yes h ↦ rw (no-line i h) refl | no h ↦ has-row m (lineAt (t .words) i .kind) (line-known i (omega arith)) ]
 
-  type-is : (n : ℕ) → nodeType t n ≡ typeBy (typeAt t) (nodeKind (nodeAt t n .kind)) (nodeAt t n .a) (nodeAt t n .b) (λ j. if ltb j n then nodeType t j else bool)
+  type-is : (n : ℕ) → nodeType t n ≡ typeBy (typeAt t) (nodeKind (nodeAt t n .kind)) (nodeAt t n .a) (nodeAt t n .b)
+      (λ j. if ltb j n then nodeType t j else bool)
   unfolding nodeType
   type-is n = value-is (λ m ty. typeBy (typeAt t) (nodeKind (nodeAt t m .kind)) (nodeAt t m .a) (nodeAt t m .b) ty) bool n
 
@@ -292,19 +308,24 @@ module _ (m : MachineKind) (t : Table) (A : Accepted m t) where
   node-fits n h =
       fits m t (nodeType t) (nodeKind (nodeAt t n .kind)) (nodeAt t n .a) (nodeAt t n .b) (nodeAt t n .c) n (λ j. if ltb j n then nodeType t j else bool)
       (λ j l. rw (lt-ltb j n l)) (sym (type-is n)) (line-node (t .decls + n))
-      (all-at (t .nodes) (nodeThere t) (A .nodesThere) n h) (all-at (t .nodes) (nodeTyped t) (A .nodesTyped) n h) (all-at (t .nodes) (nodeSuitsMark m t) (A .nodesSuit) n h)
+      (all-at (t .nodes) (nodeThere t) (A .nodesThere) n h) (all-at (t .nodes) (nodeTyped t) (A .nodesTyped) n h)
+          (all-at (t .nodes) (nodeSuitsMark m t) (A .nodesSuit) n h)
 
   pub rows-fit : (r : ℕ) → r < t .rows → RowFits m t (nodeType t) (rowKind (rowAt t r .kind)) (rowAt t r .a) (rowAt t r .b) (rowAt t r .c)
   unfolding rowThere rowTyped rowSuitsMark
   rows-fit r h =
       row-fits m t (nodeType t) (rowKind (rowAt t r .kind)) (rowAt t r .a) (rowAt t r .b) (rowAt t r .c) (line-row (t .decls + t .nodes + r))
-      (all-at (t .rows) (rowThere t) (A .rowsThere) r h) (all-at (t .rows) (rowTyped t) (A .rowsTyped) r h) (all-at (t .rows) (rowSuitsMark m t) (A .rowsSuit) r h)
+      (all-at (t .rows) (rowThere t) (A .rowsThere) r h) (all-at (t .rows) (rowTyped t) (A .rowsTyped) r h)
+          (all-at (t .rows) (rowSuitsMark m t) (A .rowsSuit) r h)
+
+  row-nested : (r : ℕ) → r < t .rows → nestBreaks (nestAt t r) (openAt t r) (leb (t .rows) (matchingEnd t r)) ≡ false
+  unfolding misnested
+  row-nested r h = not-true (misnested t r) (all-at (t .rows) (λ r. not (misnested t r)) (A .rowsNested) r h)
 
   pub is-nested : Nested t
-  unfolding rowOpened
   is-nested = record {
-    closed = none-is (openAt t (t .rows)) (A .loopsClosed);
-    some = λ r h e. some-is (nestAt t r) (openAt t r) (all-at (t .rows) (rowOpened t) (A .endsOpened) r h) e;
+    closed = none-open t (λ r h e. leb-false (t .rows) (matchingEnd t r) (closed-is (nestAt t r) (openAt t r) _ (row-nested r h) e));
+    some = λ r h e. some-is (nestAt t r) (openAt t r) _ (row-nested r h) e;
   }
 
 -- ---- of an accepted plain table, at every number

@@ -14,16 +14,18 @@ use Rattle.file.specs.declared.Read.the-variants as File
 use Rattle.file.specs.Word.{wordAt}
 use Rattle.file.specs.Reading.{readAnswer, readBuffer}
 use Rattle.file.proofs.ReadingLaws.{accepted, lines-most}
+use Rattle.model.specs.Class.{pair}
 use Rattle.pair.specs.declared.Paired.{Paired}
 use Rattle.pair.specs.Pairs.{saidOf, tableSaid, fileSaid, pairSaid}
 
 -- a file that was read into zeroed words of the stated size
-module _ (bs words : List ℕ) (found : Read) (e : found ≡ readAnswer bs 5248) (b : words ≡ readBuffer bs (replicate 5248 0)) (c1 c2 limit : ℕ) (r : Paired) where
-  pub file-refused : {number place : ℕ} → found ≡ File.Refused number place → r .verdict ≡ Refused number place → saidOf r ≡ fileSaid c1 c2 limit bs
+module _ (bs words : List ℕ) (found : Read) (e : found ≡ readAnswer bs 5248) (b : words ≡ readBuffer bs (replicate 5248 0)) (ps : List ℕ) (limit : ℕ)
+    (r : Paired) where
+  pub file-refused : {number place : ℕ} → found ≡ File.Refused number place → r .verdict ≡ Refused number place → saidOf r ≡ fileSaid ps limit bs
   unfolding fileSaid
   file-refused h w = rw (w, ← e, h)
 
-  pub file-read : {n : ℕ} → found ≡ File.Lines n → saidOf r ≡ tableSaid c1 c2 limit (take (4 * n) words) → saidOf r ≡ fileSaid c1 c2 limit bs
+  pub file-read : {n : ℕ} → found ≡ File.Lines n → saidOf r ≡ tableSaid ps limit (take (4 * n) words) → saidOf r ≡ fileSaid ps limit bs
   unfolding fileSaid
   file-read h k = k ∙ rw (← e, h, b)
 
@@ -43,7 +45,7 @@ module _ (input : List ℕ) (r : Paired) where
   short-said l w = rw (lt-ltb (length input) 12 l, w)
 
   pub long-said : 12 ≤ length input → (c1 c2 limit : ℕ) → c1 ≡ wordAt input 0 → c2 ≡ wordAt input 4 → limit ≡ wordAt input 8
-      → saidOf r ≡ fileSaid c1 c2 limit (take (length input - 12) (drop 12 input)) → saidOf r ≡ pairSaid input
+      → saidOf r ≡ fileSaid (pair c1 c2) limit (take (length input - 12) (drop 12 input)) → saidOf r ≡ pairSaid input
   unfolding pairSaid
   long-said l c1 c2 limit h i j e =
       let rest : length (drop 12 input) ≤ length input - 12 = omega (arith, length-drop 12 input) in

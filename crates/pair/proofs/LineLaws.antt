@@ -7,19 +7,20 @@ use mathlib.Core.Bool.{true, false}
 use mathlib.Core.List.{List, []}
 use lib.ListN.{length}
 use borrow.Author.Tests.{eq-eqb}
+use Rattle.runs.specs.Ends.{endOf, reportOf}
 use Rattle.table.specs.declared.Verdict.{Verdict}
 use Rattle.table.specs.declared.Verdict.the-variants.{Passes, Refused}
 use Rattle.table.specs.Checks.{tableCheck}
 use Rattle.table.proofs.Passing.{passing, passes}
 use Rattle.table.proofs.ReducedPasses.{passing-reduced}
+use Rattle.model.specs.Class.{pair}
 use Rattle.model.specs.State.MachineKind.{plain, reduced}
 use Rattle.model.specs.Step.{Report}
 use Rattle.model.specs.Reduce.{reduce}
 use Rattle.model.specs.Demand3.{choicesUsed, plainRun, reducedRun}
-use Rattle.reduction.specs.Reduction.{pairCheck, reduceAnswer, reduceBuffer}
+use Rattle.reduction.specs.Reduction.{placesCheck, reduceAnswer, reduceBuffer}
 use Rattle.machine.specs.declared.frame.Frame.{Frame}
 use Rattle.runs.specs.declared.Answered.{Answered}
-use Rattle.runs.specs.Steps.{endOf, reportOf}
 use Rattle.runs.specs.Checks.{frameOf, runChecks}
 use Rattle.runs.specs.Answers.{saidBy, saidOf, ranSaid, freshSaid}
 use Rattle.runs.specs.Answers.Said.{reports}
@@ -43,17 +44,19 @@ line-said t l cells f a report r h e =
     ∙ ap (lineSaid l) (said .0)
 
 -- the plain run, in cells of the stated size
-plain-runs : (t cells : List ℕ) (limit : ℕ) → tableCheck plain t ≡ Passes → length cells ≡ 4096 → freshSaid plain 0 0 t cells [] limit ≡ ranSaid [] (plainRun t limit)
+plain-runs : (t cells : List ℕ) (limit : ℕ) → tableCheck plain t ≡ Passes → length cells ≡ 4096
+    → freshSaid plain [] t cells [] limit ≡ ranSaid [] (plainRun t limit)
 unfolding freshSaid runChecks
 plain-runs t cells limit p n = rw (p, eq-eqb (length cells) 4096 n)
 
 pub plain-said : (t cells cells′ : List ℕ) (limit : ℕ) (a : Answered) (r : Line) → tableCheck plain t ≡ Passes → length cells ≡ 4096
-    → saidOf t (frameOf t false 0 0) [] a cells′ ≡ freshSaid plain 0 0 t cells [] limit → r ≡ lineFrom (a .ran) → lineOf r ≡ lineSaid [] (plainRun t limit)
+    → saidOf t (frameOf t false 0 0) [] a cells′ ≡ freshSaid plain [] t cells [] limit → r ≡ lineFrom (a .ran) → lineOf r ≡ lineSaid [] (plainRun t limit)
 plain-said t cells cells′ limit a r p n e h =
     line-said t [] cells′ (frameOf t false 0 0) a (plainRun t limit) r h (e ∙ plain-runs t cells limit p n)
 
 -- the reduction of a table that passes
-reduces : (w : List ℕ) (c1 c2 : ℕ) (lent : List ℕ) → tableCheck plain w ≡ Passes → pairCheck c1 c2 ≡ Passes → length lent ≡ length w → reduceBuffer w c1 c2 lent ≡ reduce w
+reduces : (w : List ℕ) (c1 c2 : ℕ) (lent : List ℕ) → tableCheck plain w ≡ Passes → placesCheck (pair c1 c2) ≡ Passes → length lent ≡ length w
+    → reduceBuffer w (pair c1 c2) lent ≡ reduce w
 unfolding reduceAnswer reduceBuffer
 reduces w c1 c2 lent p q n = rw (p, q, eq-eqb (length lent) (length w) n)
 
@@ -62,17 +65,19 @@ reduction-passes : (w : List ℕ) → tableCheck plain w ≡ Passes → tableChe
 reduction-passes w p = passes reduced (reduce w) (passing-reduced w (passing plain w p))
 
 -- the reduced run, in cells of the stated size
-reduced-runs : (Q cells l : List ℕ) (c1 c2 limit : ℕ) → tableCheck reduced Q ≡ Passes → pairCheck c1 c2 ≡ Passes → length cells ≡ 4112
-    → freshSaid reduced c1 c2 Q cells l limit ≡ ranSaid l (reducedRun c1 c2 Q limit l)
+reduced-runs : (Q cells l : List ℕ) (c1 c2 limit : ℕ) → tableCheck reduced Q ≡ Passes → placesCheck (pair c1 c2) ≡ Passes → length cells ≡ 4112
+    → freshSaid reduced (pair c1 c2) Q cells l limit ≡ ranSaid l (reducedRun (pair c1 c2) Q limit l)
 unfolding freshSaid runChecks
 reduced-runs Q cells l c1 c2 limit p q n = rw (p, q, eq-eqb (length cells) 4112 n)
 
-pub reduced-said : (w lent Q cells cells′ l : List ℕ) (c1 c2 limit : ℕ) (a : Answered) (r : Line) → tableCheck plain w ≡ Passes → pairCheck c1 c2 ≡ Passes
-    → length lent ≡ length w → Q ≡ reduceBuffer w c1 c2 lent → length cells ≡ 4112
-    → saidOf Q (frameOf Q true c1 c2) l a cells′ ≡ freshSaid reduced c1 c2 Q cells l limit → r ≡ lineFrom (a .ran) → lineOf r ≡ lineSaid l (reducedRun c1 c2 (reduce w) limit l)
+pub reduced-said : (w lent Q cells cells′ l : List ℕ) (c1 c2 limit : ℕ) (a : Answered) (r : Line) → tableCheck plain w ≡ Passes
+    → placesCheck (pair c1 c2) ≡ Passes
+    → length lent ≡ length w → Q ≡ reduceBuffer w (pair c1 c2) lent → length cells ≡ 4112
+    → saidOf Q (frameOf Q true c1 c2) l a cells′ ≡ freshSaid reduced (pair c1 c2) Q cells l limit → r ≡ lineFrom (a .ran)
+        → lineOf r ≡ lineSaid l (reducedRun (pair c1 c2) (reduce w) limit l)
 reduced-said w lent Q cells cells′ l c1 c2 limit a r p q s b n e h =
-    line-said Q l cells′ (frameOf Q true c1 c2) a (reducedRun c1 c2 Q limit l) r h (e ∙ reduced-runs Q cells l c1 c2 limit right q n)
-    ∙ ap (λ (Q : List ℕ). lineSaid l (reducedRun c1 c2 Q limit l)) made
+    line-said Q l cells′ (frameOf Q true c1 c2) a (reducedRun (pair c1 c2) Q limit l) r h (e ∙ reduced-runs Q cells l c1 c2 limit right q n)
+    ∙ ap (λ (Q : List ℕ). lineSaid l (reducedRun (pair c1 c2) Q limit l)) made
   where
     made : Q ≡ reduce w
     made = b ∙ reduces w c1 c2 lent p q s

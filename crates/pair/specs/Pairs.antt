@@ -3,6 +3,7 @@ use Prim.Native.Nat.{ℕ, _*_}
 use mathlib.Core.List.{List, []}
 use lib.ListN.{length, take, drop, replicate}
 use lib.Dec.{ltb}
+use Rattle.runs.specs.Ends.{endOf}
 use Rattle.lists.specs.If.{if_then_else_}
 use Rattle.table.specs.declared.Verdict.{Verdict}
 use Rattle.table.specs.declared.Verdict.the-variants.{Passes, Refused}
@@ -11,14 +12,14 @@ use Rattle.file.specs.declared.Read.{Read}
 use Rattle.file.specs.declared.Read.the-variants as File
 use Rattle.file.specs.Word.{wordAt}
 use Rattle.file.specs.Reading.{readAnswer, readBuffer}
+use Rattle.model.specs.Class.{pair}
 use Rattle.model.specs.State.MachineKind.{plain}
 use Rattle.model.specs.Step.{End, Report}
 use Rattle.model.specs.Step.Report.{ended, noEnd}
 use Rattle.model.specs.Reduce.{reduce}
 use Rattle.model.specs.Demand3.{choicesUsed, plainRun, reducedRun, writerRun}
-use Rattle.reduction.specs.Reduction.{pairCheck}
+use Rattle.reduction.specs.Reduction.{placesCheck}
 use Rattle.runs.specs.declared.Ran.{Ran}
-use Rattle.runs.specs.Steps.{endOf}
 use Rattle.choices.specs.Answers.{numbersOf}
 use Rattle.pair.specs.declared.Line.{Line}
 use Rattle.pair.specs.declared.Paired.{Paired}
@@ -51,35 +52,35 @@ saidOf a = saidBy (a .verdict) (lines (lineOf (a .plain)) (lineOf (a .pair)))
 
 -- "Row is where the run stands; then steps taken, choices used", those of the list
 abbrev pub lineSaid : List ℕ → Report → LineSaid
-lineSaid list (ended e n s left) = line e (s .row) n (choicesUsed list (ended e n s left))
+lineSaid list (ended e n s left) = line e (s .here .row) n (choicesUsed list (ended e n s left))
 lineSaid list noEnd = noLine
 
 -- "the written choices (room 8,192)": those that the writer counted (R22)
-abbrev pub writtenChoices : ℕ → ℕ → ℕ → List ℕ → List ℕ
-writtenChoices c1 c2 limit P = numbersOf (writerRun c1 c2 P limit 8192)
+abbrev pub writtenChoices : List ℕ → ℕ → List ℕ → List ℕ
+writtenChoices ps limit P = numbersOf (writerRun ps P limit 8192)
 
 -- "It prints the plain run and the reduced run under the written choices", with one limit for all (R22)
-unfoldable pub linesSaid : ℕ → ℕ → ℕ → List ℕ → PairSaid
-linesSaid c1 c2 limit P =
-    let list = writtenChoices c1 c2 limit P in
-    lines (lineSaid [] (plainRun P limit)) (lineSaid list (reducedRun c1 c2 (reduce P) limit list))
+unfoldable pub linesSaid : List ℕ → ℕ → List ℕ → PairSaid
+linesSaid ps limit P =
+    let list = writtenChoices ps limit P in
+    lines (lineSaid [] (plainRun P limit)) (lineSaid list (reducedRun ps (reduce P) limit list))
 
--- "Tested in this order": the table's checks, 4 to 12, then the pair's, 13 (R1). No other number can come out: the runs are lent buffers
+-- "Tested in this order": the table's checks, 4 to 12, then the places', 13 (R1). No other number can come out: the runs are lent buffers
 -- of the stated sizes, and the reduction passes
-unfoldable pub tableSaid : ℕ → ℕ → ℕ → List ℕ → PairSaid
-tableSaid c1 c2 limit P = saidBy (andThen (tableCheck plain P) (pairCheck c1 c2)) (linesSaid c1 c2 limit P)
+unfoldable pub tableSaid : List ℕ → ℕ → List ℕ → PairSaid
+tableSaid ps limit P = saidBy (andThen (tableCheck plain P) (placesCheck ps)) (linesSaid ps limit P)
 
 -- by what the reader answers: the file's checks, 1 to 3, come first (R1); the table is the first of the words, four to a line
-abbrev pub readSaid : ℕ → ℕ → ℕ → Read → List ℕ → PairSaid
-readSaid c1 c2 limit (File.Refused number place) words = refusal number place
-readSaid c1 c2 limit (File.Lines n) words = tableSaid c1 c2 limit (take (4 * n) words)
+abbrev pub readSaid : List ℕ → ℕ → Read → List ℕ → PairSaid
+readSaid ps limit (File.Refused number place) words = refusal number place
+readSaid ps limit (File.Lines n) words = tableSaid ps limit (take (4 * n) words)
 
 -- "The reader fills 5,248 words"; a file "above 22,016" bytes gets 1, so an input may be of any length (R2)
-unfoldable pub fileSaid : ℕ → ℕ → ℕ → List ℕ → PairSaid
-fileSaid c1 c2 limit file = readSaid c1 c2 limit (readAnswer file 5248) (readBuffer file (replicate 5248 0))
+unfoldable pub fileSaid : List ℕ → ℕ → List ℕ → PairSaid
+fileSaid ps limit file = readSaid ps limit (readAnswer file 5248) (readBuffer file (replicate 5248 0))
 
 -- "`pairrun` reads from standard input c1, c2, step limit (three little-endian words), then a file; fewer than 12 bytes is refusal 1"
 unfoldable pub pairSaid : List ℕ → PairSaid
 pairSaid input =
     if ltb (length input) 12 then refusal 1 0
-    else fileSaid (wordAt input 0) (wordAt input 4) (wordAt input 8) (drop 12 input)
+    else fileSaid (pair (wordAt input 0) (wordAt input 4)) (wordAt input 8) (drop 12 input)

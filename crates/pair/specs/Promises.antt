@@ -9,20 +9,20 @@ use Rattle.table.specs.Checks.{tableCheck, andThen}
 use Rattle.model.specs.State.MachineKind.{plain}
 use Rattle.model.specs.Step.{End}
 use Rattle.model.specs.Demand3.{wantsCells, plainRun, choiceList}
-use Rattle.reduction.specs.Reduction.{pairCheck}
+use Rattle.reduction.specs.Reduction.{placesCheck}
 use Rattle.pair.specs.Pairs.{tableSaid}
 use Rattle.pair.specs.Pairs.LineSaid.{line}
 use Rattle.pair.specs.Pairs.PairSaid.{lines}
 
 -- "End, row and steps are those that both runs report"; "the reduced run reports as many choices used as it has numbers"
-pub record SameLines (c1 c2 limit : ℕ) (P : List ℕ) : Type 0 where
+pub record SameLines (ps : List ℕ) (limit : ℕ) (P : List ℕ) : Type 0 where
   pub end : End
   pub row : ℕ
   pub steps : ℕ
-  pub said : tableSaid c1 c2 limit P ≡ lines (line end row steps 0) (line end row steps (length (choiceList c1 c2 P limit)))
+  pub said : tableSaid ps limit P ≡ lines (line end row steps 0) (line end row steps (length (choiceList ps P limit)))
 
 -- a plain run that does not end for want of cells, whose choices the room holds
 abbrev pub LinesMatch : Type 0
 LinesMatch =
-    (c1 c2 limit : ℕ) (P : List ℕ) → andThen (tableCheck plain P) (pairCheck c1 c2) ≡ Passes → wantsCells (plainRun P limit) ≡ false
-    → length (choiceList c1 c2 P limit) ≤ 8192 → SameLines c1 c2 limit P
+    (ps : List ℕ) (limit : ℕ) (P : List ℕ) → andThen (tableCheck plain P) (placesCheck ps) ≡ Passes → wantsCells (plainRun P limit) ≡ false
+    → length (choiceList ps P limit) ≤ 8192 → SameLines ps limit P

@@ -14,7 +14,8 @@ ghost use Rattle.table.specs.Checks.{tableCheck};
 ghost use Rattle.model.specs.State.MachineKind.{plain};
 ghost use Rattle.model.specs.Reduce.{reduce};
 ghost use Rattle.model.specs.Demand3.{plainRun, reducedRun};
-ghost use Rattle.reduction.specs.Reduction.{pairCheck};
+ghost use Rattle.reduction.specs.Reduction.{placesCheck};
+ghost use Rattle.model.specs.Class.{pair};
 ghost use Rattle.pair.specs.Pairs.{lineFrom, lineOf, lineSaid};
 
 // The words of the longest table.
@@ -47,8 +48,8 @@ pub(crate) fn plain_line(t: &[u32], limit: u32) -> Line
 
 // The run of the reduction, which is made in a lent table as long as the table. Neither the reduction nor its run is refused.
 fn reduced_line(t: &[u32], c1: u32, c2: u32, lent: &mut [u32], list: &[u32], limit: u32) -> Line
-    requires { ⌜ (tableCheck plain (now t) ≡ Passes) × (pairCheck c1 c2 ≡ Passes) × (length (now lent) ≡ length (now t)) ⌝ }
-    ensures { λ r. ⌜ lineOf r ≡ lineSaid (now (list .entry)) (reducedRun c1 c2 (reduce (now (t .entry))) limit (now (list .entry))) ⌝ }
+    requires { ⌜ (tableCheck plain (now t) ≡ Passes) × (placesCheck (pair c1 c2) ≡ Passes) × (length (now lent) ≡ length (now t)) ⌝ }
+    ensures { λ r. ⌜ lineOf r ≡ lineSaid (now (list .entry)) (reducedRun (pair c1 c2) (reduce (now (t .entry))) limit (now (list .entry))) ⌝ }
 {
     reduce_table(t, c1, c2, lent);
     let mut cells = [0u32; Machine::REDUCED_CELLS];
@@ -59,8 +60,8 @@ fn reduced_line(t: &[u32], c1: u32, c2: u32, lent: &mut [u32], list: &[u32], lim
 
 // The reduced run under a list of choices.
 pub(crate) fn pair_line(t: &[u32], c1: u32, c2: u32, list: &[u32], limit: u32) -> Line
-    requires { ⌜ (tableCheck plain (now t) ≡ Passes) × (pairCheck c1 c2 ≡ Passes) × (length (now t) ≤ 5248) ⌝ }
-    ensures { λ r. ⌜ lineOf r ≡ lineSaid (now (list .entry)) (reducedRun c1 c2 (reduce (now (t .entry))) limit (now (list .entry))) ⌝ }
+    requires { ⌜ (tableCheck plain (now t) ≡ Passes) × (placesCheck (pair c1 c2) ≡ Passes) × (length (now t) ≤ 5248) ⌝ }
+    ensures { λ r. ⌜ lineOf r ≡ lineSaid (now (list .entry)) (reducedRun (pair c1 c2) (reduce (now (t .entry))) limit (now (list .entry))) ⌝ }
 {
     let mut lent = [0u32; TABLE_WORDS];
     let n = t.len();

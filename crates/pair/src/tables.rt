@@ -12,6 +12,7 @@ use table::Verdict;
 ghost use mathlib.Core.Path.{_≡_};
 ghost use Prim.Native.Nat.{_≤_};
 ghost use lib.ListN.{length};
+ghost use Rattle.model.specs.Class.{pair};
 ghost use Rattle.pair.specs.Pairs.{saidOf, tableSaid, fileSaid};
 
 // The room of the choice list.
@@ -20,7 +21,7 @@ const ROOM: usize = 8192;
 // Both runs of a table: the writer makes the checks, and the reduced run has the numbers that it counted.
 fn run_table(t: &[u32], c1: u32, c2: u32, limit: u32) -> Paired
     requires { ⌜ length (now t) ≤ 5248 ⌝ }
-    ensures { λ r. ⌜ saidOf r ≡ tableSaid c1 c2 limit (now (t .entry)) ⌝ }
+    ensures { λ r. ⌜ saidOf r ≡ tableSaid (pair c1 c2) limit (now (t .entry)) ⌝ }
 {
     let mut cells = [0u32; Machine::PLAIN_CELLS];
     let mut list = [0u32; ROOM];
@@ -42,7 +43,7 @@ fn run_table(t: &[u32], c1: u32, c2: u32, limit: u32) -> Paired
 
 // Both runs of the table that a file holds.
 pub(crate) fn run_file(file: &[u8], c1: u32, c2: u32, limit: u32) -> Paired
-    ensures { λ r. ⌜ saidOf r ≡ fileSaid c1 c2 limit (now (file .entry)) ⌝ }
+    ensures { λ r. ⌜ saidOf r ≡ fileSaid (pair c1 c2) limit (now (file .entry)) ⌝ }
 {
     let mut words = [0u32; TABLE_WORDS];
     let found = read_file(file, &mut words);

@@ -10,22 +10,25 @@ use mathlib.Core.List.{List, [], _++_}
 use lib.ListN.{length, List·getD-eq-default}
 use lib.Dec.{ltb, eqb}
 use borrow.Author.Tests.{ltb-true, lt-ltb, ne-eqb}
+use Rattle.machine.specs.CodeAnswers.{Lent, varsIn, arraysIn, contentsIn, tableIn, operand}
 use Rattle.lists.specs.If.{if_then_else_}
 use Rattle.lists.specs.Tab.{all}
 use Rattle.lists.proofs.TabLaws.{all-at}
 use Rattle.model.specs.Table.{Table, Ty, nodeAt, Node, nodeKind, nodeKinds}
 use Rattle.model.specs.Table.Ty.{bool, uint, pointer}
-use Rattle.model.specs.Table.Node.{variable, uintConstant, boolConstant, cell, plus, minus, less, atMost, equal, conditional, valid, classVariable, reducedCell, reducedValid, noNode}
+use Rattle.model.specs.Table.Node.{variable, uintConstant, boolConstant, cell, plus, minus, less, atMost, equal, conditional, valid, classVariable}
+use Rattle.model.specs.Table.Node.{reducedCell, reducedValid, noNode}
 use Rattle.model.specs.Work.{Out, Work, _>>=_}
-use Rattle.model.specs.State.{State, Loop}
-use Rattle.model.specs.Eval.{Of, Ptr, storeOf, rule, present, below, evalF, eval}
+use Rattle.model.specs.State.{State, Position}
+use Rattle.model.specs.Step.{withHere}
+use Rattle.model.specs.Eval.{Of, Ptr, contentsOf, rule, present, below, evalF, eval}
 use Rattle.model.specs.Writer.{given, choicesRule, choicesF}
 use Rattle.model.proofs.EvalLaws.{eval-is}
 use Rattle.machine.specs.declared.nodes.Node.{Node as Taken}
 use Rattle.machine.specs.declared.nodes.Node.the-variants.{Variable, Constant, Flag, Cell, Arith, Compare, If, Valid, InClass, Nothing}
-use Rattle.machine.specs.View.{places, Lent, varsIn, arraysIn, storeIn, tableIn, operand}
-use Rattle.machine.specs.Leaves.{loadOf, readOf, decoded, nodeIn}
-use Rattle.recording.specs.Records.{heldOf, pairOf, stateIn, operandNumbers, variableNumbers, cellNumbers}
+use Rattle.machine.specs.View.{places}
+use Rattle.machine.specs.CodeLeaves.{loadOf, readOf, decoded, nodeIn}
+use Rattle.recording.specs.CodeRecords.{heldOf, pairOf, stateIn, operandNumbers, variableNumbers, cellNumbers}
 
 -- one of two by a test, where only the first is asked for
 under : {A : Type 0} (m n : ℕ) (x y z : A) → (m < n → x ≡ y) → (if ltb m n then x else z) ≡ (if ltb m n then y else z)
@@ -38,20 +41,20 @@ under {A} m n x y z h = go (ltb m n) refl
 -- ---- any bound of the nesting above the node's number gives the same
 module _ (ps : List ℕ) (t : Table) (ks : List Bool) (s : State) where
   abbrev evalAt : (w : Ty) → ℕ → Work (Of w)
-  evalAt = eval [] (storeOf s) t
+  evalAt = eval [] (contentsOf s) t
 
   abbrev rules : (w : Ty) → ℕ → ((v : Ty) → ℕ → Work (Of v)) → Work (Of w)
-  rules w n ev = rule [] (storeOf s) w (nodeKind (nodeAt t n .kind)) (nodeAt t n .a) (nodeAt t n .b) (nodeAt t n .c) ev >>= present (length (s .arrays)) w
+  rules w n ev = rule [] (contentsOf s) w (nodeKind (nodeAt t n .kind)) (nodeAt t n .a) (nodeAt t n .b) (nodeAt t n .c) ev >>= present (length (s .arrays)) w
 
-  value-fuel : (f : ℕ) (w : Ty) (n : ℕ) → n < f → evalF [] (storeOf s) t f w n ≡ evalAt w n
+  value-fuel : (f : ℕ) (w : Ty) (n : ℕ) → n < f → evalF [] (contentsOf s) t f w n ≡ evalAt w n
   unfolding evalF
   value-fuel zero w n h = absurd (not-suc-le-zero h)
   value-fuel (suc f) w n h =
-      ap (rules w n) (fun-ext λ v. fun-ext λ m. under m n (evalF [] (storeOf s) t f v m) (evalAt v m) _ (λ l. value-fuel f v m (omega numbers)))
-      ∙ sym (eval-is [] (storeOf s) t w n)
+      ap (rules w n) (fun-ext λ v. fun-ext λ m. under m n (evalF [] (contentsOf s) t f v m) (evalAt v m) _ (λ l. value-fuel f v m (omega numbers)))
+      ∙ sym (eval-is [] (contentsOf s) t w n)
 
-  below-fuel : (f n : ℕ) → n ≤ f → below n (evalF [] (storeOf s) t f) ≡ below n evalAt
-  below-fuel f n h = fun-ext λ v. fun-ext λ m. under m n (evalF [] (storeOf s) t f v m) (evalAt v m) _ (λ l. value-fuel f v m (omega numbers))
+  below-fuel : (f n : ℕ) → n ≤ f → below n (evalF [] (contentsOf s) t f) ≡ below n evalAt
+  below-fuel f n h = fun-ext λ v. fun-ext λ m. under m n (evalF [] (contentsOf s) t f v m) (evalAt v m) _ (λ l. value-fuel f v m (omega numbers))
 
   abbrev listed : (w : Ty) → ℕ → ((v : Ty) → ℕ → Work (Of v)) → (Ty → ℕ → List ℕ) → List ℕ
   listed w n = choicesRule ps t ks s w (nodeKind (nodeAt t n .kind)) (nodeAt t n .a) (nodeAt t n .b) (nodeAt t n .c)
@@ -66,20 +69,25 @@ module _ (ps : List ℕ) (t : Table) (ks : List Bool) (s : State) where
   same-choices (suc f) zero w n h k = absurd (not-suc-le-zero k)
   same-choices (suc f) (suc g) w n h k =
       ap (λ ev. listed w n ev (λ v m. if ltb m n then choicesF ps t ks s f v m else [])) (below-fuel f n (omega numbers) ∙ sym (below-fuel g n (omega numbers)))
-      ∙ ap (listed w n (below n (evalF [] (storeOf s) t g))) (fun-ext λ v. fun-ext λ m. under m n (choicesF ps t ks s f v m) (choicesF ps t ks s g v m) [] (λ l. same-choices f g v m (omega numbers) (omega numbers)))
+      ∙ ap (listed w n (below n (evalF [] (contentsOf s) t g)))
+          (fun-ext λ v. fun-ext λ m. under m n (choicesF ps t ks s f v m) (choicesF ps t ks s g v m) []
+          (λ l. same-choices f g v m (omega numbers) (omega numbers)))
 
   choices-are : (w : Ty) (n : ℕ) → choicesF ps t ks s (suc n) w n ≡ listed w n (below n evalAt) (choicesUnder n)
   unfolding choicesF
   choices-are w n =
       ap (λ ev. listed w n ev (λ v m. if ltb m n then choicesF ps t ks s n v m else [])) (below-fuel n n (omega numbers))
-      ∙ ap (listed w n (below n evalAt)) (fun-ext λ v. fun-ext λ m. under m n (choicesF ps t ks s n v m) (choicesF ps t ks s (suc m) v m) [] (λ l. same-choices n (suc m) v m l (omega numbers)))
+      ∙ ap (listed w n (below n evalAt))
+          (fun-ext λ v. fun-ext λ m. under m n (choicesF ps t ks s n v m) (choicesF ps t ks s (suc m) v m) []
+          (λ l. same-choices n (suc m) v m l (omega numbers)))
 
--- neither the row nor the loops of a state matter to them
-module _ (ps : List ℕ) (t : Table) (ks : List Bool) (s : State) (r : ℕ) (ls : List Loop) where
+-- where a state stands does not matter to them
+module _ (ps : List ℕ) (t : Table) (ks : List Bool) (s : State) (here : Position) where
   abbrev moved : State
-  moved = record { row = r; loops = ls; vars = s .vars; arrays = s .arrays; cells = s .cells }
+  moved = withHere s here
 
-  same-rule : (w : Ty) (k : Node) (a b c : ℕ) (ev : (v : Ty) → ℕ → Work (Of v)) (f : Ty → ℕ → List ℕ) → choicesRule ps t ks s w k a b c ev f ≡ choicesRule ps t ks moved w k a b c ev f
+  same-rule : (w : Ty) (k : Node) (a b c : ℕ) (ev : (v : Ty) → ℕ → Work (Of v)) (f : Ty → ℕ → List ℕ)
+      → choicesRule ps t ks s w k a b c ev f ≡ choicesRule ps t ks moved w k a b c ev f
   unfolding choicesRule
   same-rule w variable a b c ev f = refl
   same-rule w uintConstant a b c ev f = refl
@@ -101,8 +109,10 @@ module _ (ps : List ℕ) (t : Table) (ks : List Bool) (s : State) (r : ℕ) (ls 
   unfolding choicesF
   same-state zero w n = refl
   same-state (suc f) w n =
-      same-rule w (nodeKind (nodeAt t n .kind)) (nodeAt t n .a) (nodeAt t n .b) (nodeAt t n .c) (below n (evalF [] (storeOf s) t f)) (λ v m. if ltb m n then choicesF ps t ks s f v m else [])
-      ∙ ap (listed ps t ks moved w n (below n (evalF [] (storeOf s) t f))) (fun-ext λ v. fun-ext λ m. ap (λ (xs : List ℕ). if ltb m n then xs else []) (same-state f v m))
+      same-rule w (nodeKind (nodeAt t n .kind)) (nodeAt t n .a) (nodeAt t n .b) (nodeAt t n .c) (below n (evalF [] (contentsOf s) t f))
+          (λ v m. if ltb m n then choicesF ps t ks s f v m else [])
+      ∙ ap (listed ps t ks moved w n (below n (evalF [] (contentsOf s) t f)))
+          (fun-ext λ v. fun-ext λ m. ap (λ (xs : List ℕ). if ltb m n then xs else []) (same-state f v m))
 
 -- ---- 26 among the kinds
 abbrev isValid : Node → Bool
@@ -152,7 +162,8 @@ module _ (e : Lent) (held : List ℕ) where
   numbersOf q w n (Constant k) = []
   numbersOf q w n (Flag b) = []
   numbersOf q w n (Cell true a) = []
-  numbersOf q w n (Cell false a) = nums pointer n a ++ given (operand e pointer n a []) (λ p. cellNumbers (pairOf (e .frame)) (heldOf (e .count) held) p (loaded p))
+  numbersOf q w n (Cell false a) = nums pointer n a
+      ++ given (operand e pointer n a []) (λ p. cellNumbers (pairOf (e .frame)) (heldOf (e .count) held) p (loaded p))
   numbersOf q w n (Arith m a b) = nums w n a ++ given (operand e w n a []) (λ x. nums uint n b)
   numbersOf q w n (Compare k a b) = nums uint n a ++ given (operand e uint n a []) (λ x. nums uint n b)
   numbersOf q w n (If a b c) = nums bool n a ++ given (operand e bool n a []) (λ x. if x then nums w n b else nums w n c)
@@ -162,7 +173,8 @@ module _ (e : Lent) (held : List ℕ) where
 
   module _ (plain : places (e .frame) ≡ []) where
     rule-taken : (w : Ty) (n : ℕ) (k : Node) (a b c : ℕ)
-        → choicesRule (pairOf (e .frame)) (tableIn e) (heldOf (e .count) held) (stateIn e) w k a b c (λ v m. operand e v n m) (λ v m. nums v n m) ≡ numbersOf (isValid k) w n (decoded k a a b c)
+        → choicesRule (pairOf (e .frame)) (tableIn e) (heldOf (e .count) held) (stateIn e) w k a b c (λ v m. operand e v n m) (λ v m. nums v n m)
+            ≡ numbersOf (isValid k) w n (decoded k a a b c)
     unfolding choicesRule variableNumbers cellNumbers loadOf readOf
     rule-taken w n variable a b c = refl
     rule-taken w n uintConstant a b c = refl
@@ -186,7 +198,8 @@ module _ (e : Lent) (held : List ℕ) where
     numbers-are w n user {r} {x} h read p =
         ap (λ (b : Bool). if b then choicesF (pairOf (e .frame)) (tableIn e) (heldOf (e .count) held) (stateIn e) (suc n) w n else []) (lt-ltb n user h)
         ∙ choices-are (pairOf (e .frame)) (tableIn e) (heldOf (e .count) held) (stateIn e) w n
-        ∙ ap (λ ps. listed (pairOf (e .frame)) (tableIn e) (heldOf (e .count) held) (stateIn e) w n (below n (eval ps (storeIn e) (tableIn e))) (λ v m. nums v n m)) (sym plain)
+        ∙ ap (λ ps. listed (pairOf (e .frame)) (tableIn e) (heldOf (e .count) held) (stateIn e) w n (below n (eval ps (contentsIn e) (tableIn e)))
+            (λ v m. nums v n m)) (sym plain)
         ∙ rule-taken w n (nodeKind (nodeAt (tableIn e) n .kind)) (nodeAt (tableIn e) n .a) (nodeAt (tableIn e) n .b) (nodeAt (tableIn e) n .c)
         ∙ ap (λ q. numbersOf q w n (nodeIn (e .table) (e .frame) n)) (kind-valid (nodeAt (tableIn e) n .kind))
         ∙ ap (numbersOf (eqb (nodeAt (tableIn e) n .kind) 26) w n) (sym read ∙ p)

@@ -12,7 +12,7 @@ use lib.Seq.{sets, sets-eq, take-at}
 use lib.Dec.{ltb}
 use borrow.Author.Tests.{lt-ltb, le-ltb}
 use Rattle.lists.specs.If.{if_then_else_}
-use Rattle.recording.specs.Pushes.{Pushed, pushed, push, pushAll}
+use Rattle.recording.specs.CodePushes.{Pushed, pushed, push, pushAll}
 
 -- one number, where there is a place for it and where there is none
 pub push-in : (b : List ℕ) (i v : ℕ) → i < length b → pushed (set b i v) (i + 1) ≡ push v (pushed b i)

@@ -13,6 +13,7 @@ use lib.Dec.{ltb}
 use borrow.Author.Tests.{le-ltb}
 use types.Run.{OneOf, miss}
 use denote.Enum.Declared.{tagOf}
+use Rattle.machine.specs.CodeAnswers.{outOf, Says, operand}
 use Rattle.lists.specs.If.{if_then_else_}
 use Rattle.lists.specs.Tab.{listed, tab, all}
 use Rattle.lists.proofs.TabLaws.{all-at}
@@ -32,14 +33,14 @@ use Rattle.machine.specs.declared.Machine.{Machine}
 use Rattle.machine.specs.declared.frame.Frame.{Frame}
 use Rattle.machine.specs.declared.answers.Answer.{Answer}
 use Rattle.machine.specs.declared.answers.Answer.the-variants.{Bool as ABool, Uint as AUint, Pointer as APointer, Fails, BadChoice, NoChoice, Stuck}
-use Rattle.machine.specs.View.{tableFor, stateOf, loopsOf, outOf, Says, operand}
-use Rattle.machine.specs.Leaves.{arith as adds}
+use Rattle.machine.specs.View.{tableFor, stateOf, loopsOf}
+use Rattle.machine.specs.CodeLeaves.{arith as adds}
 use Rattle.machine.proofs.LoopLaws.{loops-split}
 use Rattle.recording.specs.declared.rows.Numbers.{Numbers}
 use Rattle.recording.specs.declared.rows.Numbers.the-variants.{Count, Stuck as NStuck}
-use Rattle.recording.specs.Pushes.{Pushed, pushed, push, pushAll}
-use Rattle.recording.specs.Records.{Plain, heldOf, pairOf, stateIn, operandNumbers, Reached, Records, Recorded}
-use Rattle.recording.specs.Rows.{Counted, countedOf, lentOf, RowCounted, boundsFor}
+use Rattle.recording.specs.CodePushes.{Pushed, pushed, push, pushAll}
+use Rattle.recording.specs.CodeRecords.{Plain, heldOf, pairOf, stateIn, operandNumbers, Reached, Records, Recorded}
+use Rattle.recording.specs.CodeRows.{Counted, countedOf, lentOf, RowCounted, boundsFor}
 use Rattle.recording.proofs.PushLaws.{push-one, push-none, push-append}
 use Rattle.recording.proofs.NumberLaws.{same-state}
 use Rattle.recording.proofs.RecordLaws.{none-uint, none-pointer}
@@ -50,7 +51,8 @@ module _ (v : Ty) (x : Answer) (mid : List ℕ) (p : Pushed) {o : Out (Of v)} {x
   -- no numbers come after it
   counted-all : {r : Numbers} → r ≡ countedOf x → Counted r (next o k) xs mid p
   unfolding Reached Counted outOf
-  counted-all {r} e = subst (λ (y : Numbers). Counted y (next o k) xs mid p) (sym e) (subst (λ (y : Out (Of v)). Counted (countedOf x) (next y k) xs mid p) (h .value) (go x (h .numbers)))
+  counted-all {r} e = subst (λ (y : Numbers). Counted y (next o k) xs mid p) (sym e)
+      (subst (λ (y : Out (Of v)). Counted (countedOf x) (next y k) xs mid p) (h .value) (go x (h .numbers)))
     where
       go : (x : Answer) → Reached x mid (pushAll xs p) → Counted (countedOf x) (next (outOf v [] x) k) xs mid p
       go (ABool b at) h = h
@@ -63,10 +65,12 @@ module _ (v : Ty) (x : Answer) (mid : List ℕ) (p : Pushed) {o : Out (Of v)} {x
 
   -- it gave no value of its type
   counted-else : (g : Of v → List ℕ) {r : Numbers} → given (outOf v [] x) g ≡ [] → r ≡ countedOf x → Counted r (next o k) (xs ++ given o g) mid p
-  counted-else g {r} none e = subst (λ (ys : List ℕ). Counted r (next o k) ys mid p) (sym (append-nil xs) ∙ ap (λ (ys : List ℕ). xs ++ ys) (sym none ∙ ap (λ (y : Out (Of v)). given y g) (h .value))) (counted-all e)
+  counted-else g {r} none e = subst (λ (ys : List ℕ). Counted r (next o k) ys mid p)
+      (sym (append-nil xs) ∙ ap (λ (ys : List ℕ). xs ++ ys) (sym none ∙ ap (λ (y : Out (Of v)). given y g) (h .value))) (counted-all e)
 
   -- it gave a
-  counted-then : (g : Of v → List ℕ) (new : List ℕ) (a : Of v) (m : ℕ) (r : Numbers) → outOf v [] x ≡ gives a [] → pushed mid m ≡ pushAll xs p → Counted r (k a []) (g a) new (pushed mid m)
+  counted-then : (g : Of v → List ℕ) (new : List ℕ) (a : Of v) (m : ℕ) (r : Numbers) → outOf v [] x ≡ gives a [] → pushed mid m ≡ pushAll xs p
+      → Counted r (k a []) (g a) new (pushed mid m)
       → Counted r (next o k) (xs ++ given o g) new p
   unfolding Counted
   counted-then g new a m r e q s = subst (λ (y : Out (Of v)). Counted r (next y k) (xs ++ given y g) new p) (sym e ∙ h .value) (go r s)
@@ -105,12 +109,14 @@ gave-pointer {r = r} {w = w} {j = j} e = ap (outOf pointer []) e ∙ ap (gives (
 
 -- ---- start and end of a loop, by the mark of its iterator a
 module _ (t : List ℕ) (f : Frame) (row x y at : ℕ) (out : List ℕ) {a : ℕ} {q : Bool} where
-  pub bounds-marked : (mid new : List ℕ) {i n : ℕ} → a ≡ rowAt (tableFor t f) row .a → q ≡ marked t 2 a → q ≡ true → pushed mid i ≡ push x (pushed out at) → pushed new n ≡ push y (pushed mid i)
+  pub bounds-marked : (mid new : List ℕ) {i n : ℕ} → a ≡ rowAt (tableFor t f) row .a → q ≡ marked t 2 a → q ≡ true → pushed mid i ≡ push x (pushed out at)
+      → pushed new n ≡ push y (pushed mid i)
       → pushed new n ≡ pushAll (boundsFor (tableFor t f) row x y) (pushed out at)
   unfolding pushAll
   bounds-marked mid new ea g e h l = rw (← ea, ← g, e) (l ∙ ap (push y) h)
 
-  pub bounds-unmarked : a ≡ rowAt (tableFor t f) row .a → q ≡ marked t 2 a → q ≡ false → pushed out at ≡ pushAll (boundsFor (tableFor t f) row x y) (pushed out at)
+  pub bounds-unmarked : a ≡ rowAt (tableFor t f) row .a → q ≡ marked t 2 a → q ≡ false
+      → pushed out at ≡ pushAll (boundsFor (tableFor t f) row x y) (pushed out at)
   unfolding pushAll
   bounds-unmarked ea g e = rw (← ea, ← g, e)
 
@@ -164,28 +170,35 @@ module _ (t : List ℕ) (f : Frame) (m : Machine) (cells held : List ℕ) where
 
   -- a row's node, as the model says it
   module _ (plain : Plain f) where
-    row-operand : (w : Ty) (n : ℕ) (x : Answer) (out : List ℕ) (p : Pushed) → Recorded w (lentOf t f m cells) held (f .nodes) n x out p → Records w (node [] T S w n []) (nodeNumbers w n) x out p
+    row-operand : (w : Ty) (n : ℕ) (x : Answer) (out : List ℕ) (p : Pushed) → Recorded w (lentOf t f m cells) held (f .nodes) n x out p
+        → Records w (node [] T S w n []) (nodeNumbers w n) x out p
     unfolding operand operandNumbers nodeChoices
     row-operand w n x out p h =
         subst (λ (ps : List ℕ). Records w (node ps T S w n []) (nodeNumbers w n) x out p) (no-places f (plain .plain))
         (subst (λ (ys : List ℕ). Records w (operand (lentOf t f m cells) w (f .nodes) n []) (if ltb n (f .nodes) then ys else []) x out p)
-        (same-state (pairOf f) T ks (stateIn (lentOf t f m cells)) (m .row) (S .loops) (suc n) w n) h)
+        (same-state (pairOf f) T ks (stateIn (lentOf t f m cells)) (S .here) (suc n) w n) h)
 
     -- ---- rows with one operand
-    pub assign-counted : (a b c : ℕ) (x : Answer) (out : List ℕ) (p : Pushed) (kind : ℕ) {r : Numbers} → kind ≡ getD t (4 * a) 0 → Recorded (typeOf kind) (lentOf t f m cells) held (f .nodes) b x out p → r ≡ countedOf x
+    pub assign-counted : (a b c : ℕ) (x : Answer) (out : List ℕ) (p : Pushed) (kind : ℕ) {r : Numbers} → kind ≡ getD t (4 * a) 0
+        → Recorded (typeOf kind) (lentOf t f m cells) held (f .nodes) b x out p → r ≡ countedOf x
         → RowCounted t f m cells held assign a b c r out p
     unfolding rowRule rowChoices
-    assign-counted a b c x out p kind e h q = counted-all (typeAt T a) x out p (row-operand (typeAt T a) b x out p (subst (λ (i : ℕ). Recorded (typeOf i) (lentOf t f m cells) held (f .nodes) b x out p) e h)) (λ y. setVar S a (value (typeAt T a) y) >>= λ s′. give (to (past s′))) q
+    assign-counted a b c x out p kind e h q = counted-all (typeAt T a) x out p
+        (row-operand (typeAt T a) b x out p (subst (λ (i : ℕ). Recorded (typeOf i) (lentOf t f m cells) held (f .nodes) b x out p) e h))
+        (λ y. setVar S a (value (typeAt T a) y) >>= λ s′. give (to (past s′))) q
 
-    pub assert-counted : (a b c : ℕ) (x : Answer) (out : List ℕ) (p : Pushed) {r : Numbers} → Recorded bool (lentOf t f m cells) held (f .nodes) a x out p → r ≡ countedOf x → RowCounted t f m cells held assert a b c r out p
+    pub assert-counted : (a b c : ℕ) (x : Answer) (out : List ℕ) (p : Pushed) {r : Numbers} → Recorded bool (lentOf t f m cells) held (f .nodes) a x out p
+        → r ≡ countedOf x → RowCounted t f m cells held assert a b c r out p
     unfolding rowRule rowChoices
     assert-counted a b c x out p h q = counted-all bool x out p (row-operand bool a x out p h) (λ y. give (if y then to (past S) else stop assertFalse)) q
 
-    pub assume-counted : (a b c : ℕ) (x : Answer) (out : List ℕ) (p : Pushed) {r : Numbers} → Recorded bool (lentOf t f m cells) held (f .nodes) a x out p → r ≡ countedOf x → RowCounted t f m cells held assume a b c r out p
+    pub assume-counted : (a b c : ℕ) (x : Answer) (out : List ℕ) (p : Pushed) {r : Numbers} → Recorded bool (lentOf t f m cells) held (f .nodes) a x out p
+        → r ≡ countedOf x → RowCounted t f m cells held assume a b c r out p
     unfolding rowRule rowChoices
     assume-counted a b c x out p h q = counted-all bool x out p (row-operand bool a x out p h) (λ y. give (if y then to (past S) else stop assumeFalse)) q
 
-    pub array-counted : (a b c : ℕ) (x : Answer) (out : List ℕ) (p : Pushed) {r : Numbers} → Recorded uint (lentOf t f m cells) held (f .nodes) b x out p → r ≡ countedOf x → RowCounted t f m cells held array a b c r out p
+    pub array-counted : (a b c : ℕ) (x : Answer) (out : List ℕ) (p : Pushed) {r : Numbers} → Recorded uint (lentOf t f m cells) held (f .nodes) b x out p
+        → r ≡ countedOf x → RowCounted t f m cells held array a b c r out p
     unfolding rowRule rowChoices
     array-counted a b c x out p h q = counted-all uint x out p (row-operand uint b x out p h) (λ l. newArray [] S a l false) q
 
@@ -200,12 +213,15 @@ module _ (t : List ℕ) (f : Frame) (m : Machine) (cells held : List ℕ) where
       abbrev Both : Numbers → List ℕ → Pushed → Type 0
       Both r out p = Counted r (next (node [] T S v a []) onward) (nodeNumbers v a ++ given (node [] T S v a []) more) out p
 
-      first-ends : (x : Answer) (out : List ℕ) (p : Pushed) {r : Numbers} → Recorded v (lentOf t f m cells) held (f .nodes) a x out p → given (outOf v [] x) more ≡ [] → r ≡ countedOf x → Both r out p
+      first-ends : (x : Answer) (out : List ℕ) (p : Pushed) {r : Numbers} → Recorded v (lentOf t f m cells) held (f .nodes) a x out p
+          → given (outOf v [] x) more ≡ [] → r ≡ countedOf x → Both r out p
       first-ends x out p h none q = counted-else v x out p (row-operand v a x out p h) onward more none q
 
       -- the first gave z, up to the place i
-      module _ (x y : Answer) (mid new : List ℕ) (p : Pushed) (z : Of v) (i : ℕ) (h : Recorded v (lentOf t f m cells) held (f .nodes) a x mid p) (e : outOf v [] x ≡ gives z [])
-          (q : Records v (node [] T S v a []) (nodeNumbers v a) x mid p → pushed mid i ≡ pushAll (nodeNumbers v a) p) (l : Recorded uint (lentOf t f m cells) held (f .nodes) b y new (pushed mid i)) where
+      module _ (x y : Answer) (mid new : List ℕ) (p : Pushed) (z : Of v) (i : ℕ) (h : Recorded v (lentOf t f m cells) held (f .nodes) a x mid p)
+          (e : outOf v [] x ≡ gives z [])
+          (q : Records v (node [] T S v a []) (nodeNumbers v a) x mid p → pushed mid i ≡ pushAll (nodeNumbers v a) p)
+              (l : Recorded uint (lentOf t f m cells) held (f .nodes) b y new (pushed mid i)) where
         second-ends : {r : Numbers} → OneOf (0 ∷ 2 ∷ 3 ∷ 4 ∷ 5 ∷ 6 ∷ []) (tagOf answer y) → r ≡ countedOf y → Both r new p
         second-ends {r} d u =
             counted-then v x mid p (row-operand v a x mid p h) onward more new z i r e (q (row-operand v a x mid p h))
@@ -215,7 +231,8 @@ module _ (t : List ℕ) (f : Frame) (m : Machine) (cells held : List ℕ) where
         unfolding Counted
         both-given last n w j d u =
             counted-then v x mid p (row-operand v a x mid p h) onward more last z i (Count n) e (q (row-operand v a x mid p h))
-            (counted-then uint y new (pushed mid i) (row-operand uint b y new (pushed mid i) l) (k z) (g z) last w j (Count n) (gave-uint d) (at-uint y new (pushed mid i) d (row-operand uint b y new (pushed mid i) l)) u)
+            (counted-then uint y new (pushed mid i) (row-operand uint b y new (pushed mid i) l) (k z) (g z) last w j (Count n) (gave-uint d)
+                (at-uint y new (pushed mid i) d (row-operand uint b y new (pushed mid i) l)) u)
 
     -- ---- row 34
     module _ (a b c : ℕ) where
@@ -225,22 +242,27 @@ module _ (t : List ℕ) (f : Frame) (m : Machine) (cells held : List ℕ) where
       abbrev placed : Ptr → ℕ → List ℕ
       placed q x = storeChoices (pairOf f) T ks S q
 
-      pub store-first : (x : Answer) (out : List ℕ) (p : Pushed) {r : Numbers} → Recorded pointer (lentOf t f m cells) held (f .nodes) a x out p → OneOf (0 ∷ 1 ∷ 3 ∷ 4 ∷ 5 ∷ 6 ∷ []) (tagOf answer x) → r ≡ countedOf x
+      pub store-first : (x : Answer) (out : List ℕ) (p : Pushed) {r : Numbers} → Recorded pointer (lentOf t f m cells) held (f .nodes) a x out p
+          → OneOf (0 ∷ 1 ∷ 3 ∷ 4 ∷ 5 ∷ 6 ∷ []) (tagOf answer x) → r ≡ countedOf x
           → RowCounted t f m cells held store a b c r out p
       unfolding rowRule rowChoices
       store-first x out p h d q = first-ends pointer a b writes placed x out p h (none-pointer x (more pointer a b writes placed) d) q
 
-      module _ (x y : Answer) (mid new : List ℕ) (p : Pushed) {to at i : ℕ} (h : Recorded pointer (lentOf t f m cells) held (f .nodes) a x mid p) (e : x ≡ APointer to at i)
+      module _ (x y : Answer) (mid new : List ℕ) (p : Pushed) {to at i : ℕ} (h : Recorded pointer (lentOf t f m cells) held (f .nodes) a x mid p)
+          (e : x ≡ APointer to at i)
           (l : Recorded uint (lentOf t f m cells) held (f .nodes) b y new (pushed mid i)) where
-        pub store-second : {r : Numbers} → OneOf (0 ∷ 2 ∷ 3 ∷ 4 ∷ 5 ∷ 6 ∷ []) (tagOf answer y) → r ≡ countedOf y → RowCounted t f m cells held store a b c r new p
+        pub store-second : {r : Numbers} → OneOf (0 ∷ 2 ∷ 3 ∷ 4 ∷ 5 ∷ 6 ∷ []) (tagOf answer y) → r ≡ countedOf y
+            → RowCounted t f m cells held store a b c r new p
         unfolding rowRule rowChoices
         store-second d u = second-ends pointer a b writes placed x y mid new p (ptr to at) i h (gave-pointer e) (at-pointer x mid p e) l d u
 
-        store-given : (last : List ℕ) (n w j : ℕ) → y ≡ AUint w j → pushed last n ≡ pushAll (placed (ptr to at) w) (pushed new j) → RowCounted t f m cells held store a b c (Count n) last p
+        store-given : (last : List ℕ) (n w j : ℕ) → y ≡ AUint w j → pushed last n ≡ pushAll (placed (ptr to at) w) (pushed new j)
+            → RowCounted t f m cells held store a b c (Count n) last p
         unfolding rowRule rowChoices
         store-given last n w j d u = both-given pointer a b writes placed x y mid new p (ptr to at) i h (gave-pointer e) (at-pointer x mid p e) l last n w j d u
 
-        pub store-pushed : (last : List ℕ) (n : ℕ) {w j : ℕ} {q : Bool} → y ≡ AUint w j → q ≡ heldReduced ks to → q ≡ true → pushed last n ≡ push at (pushed new j) → RowCounted t f m cells held store a b c (Count n) last p
+        pub store-pushed : (last : List ℕ) (n : ℕ) {w j : ℕ} {q : Bool} → y ≡ AUint w j → q ≡ heldReduced ks to → q ≡ true
+            → pushed last n ≡ push at (pushed new j) → RowCounted t f m cells held store a b c (Count n) last p
         store-pushed last n {w = w} {j = j} d g o u = store-given last n w j d (rw (← g, o) (u ∙ sym (push-one at (pushed new j))))
 
         pub store-plain : {w j : ℕ} {q : Bool} → y ≡ AUint w j → q ≡ heldReduced ks to → q ≡ false → RowCounted t f m cells held store a b c (Count j) new p
@@ -254,7 +276,8 @@ module _ (t : List ℕ) (f : Frame) (m : Machine) (cells held : List ℕ) where
       abbrev bounds : ℕ → ℕ → List ℕ
       bounds x y = loopChoices (pairOf f) T ks S (m .row) x y
 
-      pub loop-first : (x : Answer) (out : List ℕ) (p : Pushed) {r : Numbers} → Recorded uint (lentOf t f m cells) held (f .nodes) b x out p → OneOf (0 ∷ 2 ∷ 3 ∷ 4 ∷ 5 ∷ 6 ∷ []) (tagOf answer x) → r ≡ countedOf x
+      pub loop-first : (x : Answer) (out : List ℕ) (p : Pushed) {r : Numbers} → Recorded uint (lentOf t f m cells) held (f .nodes) b x out p
+          → OneOf (0 ∷ 2 ∷ 3 ∷ 4 ∷ 5 ∷ 6 ∷ []) (tagOf answer x) → r ≡ countedOf x
           → RowCounted t f m cells held loop a b c r out p
       unfolding rowRule rowChoices
       loop-first x out p h d q = first-ends uint b c enters bounds x out p h (none-uint x (more uint b c enters bounds) d) q
@@ -265,7 +288,8 @@ module _ (t : List ℕ) (f : Frame) (m : Machine) (cells held : List ℕ) where
         unfolding rowRule rowChoices
         loop-second d u = second-ends uint b c enters bounds x y mid new p z i h (gave-uint e) (at-uint x mid p e) l d u
 
-        pub loop-given : (last : List ℕ) (n : ℕ) {w j : ℕ} → y ≡ AUint w j → pushed last n ≡ pushAll (boundsFor T (m .row) z w) (pushed new j) → RowCounted t f m cells held loop a b c (Count n) last p
+        pub loop-given : (last : List ℕ) (n : ℕ) {w j : ℕ} → y ≡ AUint w j → pushed last n ≡ pushAll (boundsFor T (m .row) z w) (pushed new j)
+            → RowCounted t f m cells held loop a b c (Count n) last p
         unfolding rowRule rowChoices
         loop-given last n {w = w} {j = j} d u = both-given uint b c enters bounds x y mid new p z i h (gave-uint e) (at-uint x mid p e) l last n w j d u
 
@@ -284,18 +308,24 @@ module _ (t : List ℕ) (f : Frame) (m : Machine) (cells held : List ℕ) where
 
       repeat-is : rowChoices (pairOf f) T ks S (m .row) loopEnd a b c ≡ given (outOf uint [] x) repeats
       unfolding rowChoices adds
-      repeat-is = let e : m .«open» ≡ suc (m .«open» - 1) = omega arith in rw (ap (λ (i : ℕ). loopsOf i (m .«loop_rows») (m .starts) (m .ends)) e, loops-split d (m .«loop_rows») (m .starts) (m .ends), s .said [])
+      repeat-is = let e : m .«open»
+          ≡ suc (m .«open» - 1) = omega arith in rw
+          (ap (λ (i : ℕ). loopsOf i (m .«loop_rows») (m .starts) (m .ends)) e, loops-split d (m .«loop_rows») (m .starts) (m .ends), s .said [])
 
-      pub repeat-fails : (out : List ℕ) → OneOf (0 ∷ 2 ∷ 3 ∷ 4 ∷ 5 ∷ 6 ∷ []) (tagOf answer x) → RowCounted t f m cells held loopEnd a b c (Count 0) out (pushed out 0)
+      pub repeat-fails : (out : List ℕ) → OneOf (0 ∷ 2 ∷ 3 ∷ 4 ∷ 5 ∷ 6 ∷ []) (tagOf answer x)
+          → RowCounted t f m cells held loopEnd a b c (Count 0) out (pushed out 0)
       unfolding Counted
       repeat-fails out h = sym (ap (λ (xs : List ℕ). pushAll xs (pushed out 0)) (repeat-is ∙ none-uint x repeats h) ∙ push-none (pushed out 0))
 
-      pub repeat-given : (out new : List ℕ) (n : ℕ) {w j : ℕ} → x ≡ AUint w j → pushed new n ≡ pushAll (repeats w) (pushed out 0) → RowCounted t f m cells held loopEnd a b c (Count n) new (pushed out 0)
+      pub repeat-given : (out new : List ℕ) (n : ℕ) {w j : ℕ} → x ≡ AUint w j → pushed new n ≡ pushAll (repeats w) (pushed out 0)
+          → RowCounted t f m cells held loopEnd a b c (Count n) new (pushed out 0)
       unfolding Counted
-      repeat-given out new n {w = w} h u = u ∙ sym (ap (λ (xs : List ℕ). pushAll xs (pushed out 0)) (repeat-is ∙ ap (λ (y : Out ℕ). given y repeats) (gave-uint h)))
+      repeat-given out new n {w = w} h u = u
+          ∙ sym (ap (λ (xs : List ℕ). pushAll xs (pushed out 0)) (repeat-is ∙ ap (λ (y : Out ℕ). given y repeats) (gave-uint h)))
 
   -- ---- the step, by its row's words k, a, b and c
-  module _ {k a b c : ℕ} (ek : k ≡ getD t (4 * (f .decls + f .nodes + m .row) + 0) 0) (ea : a ≡ rowAt T (m .row) .a) (eb : b ≡ rowAt T (m .row) .b) (ec : c ≡ rowAt T (m .row) .c) where
+  module _ {k a b c : ℕ} (ek : k ≡ getD t (4 * (f .decls + f .nodes + m .row) + 0) 0) (ea : a ≡ rowAt T (m .row) .a) (eb : b ≡ rowAt T (m .row) .b)
+      (ec : c ≡ rowAt T (m .row) .c) where
     kind-is : k ≡ rowAt T (m .row) .kind
     kind-is = let e : 4 * (f .decls + f .nodes + m .row) + 0 ≡ 4 * (f .decls + f .nodes + m .row) = omega arith in ek ∙ ap (λ (i : ℕ). getD t i 0) e
 
@@ -327,4 +357,5 @@ module _ (t : List ℕ) (f : Frame) (m : Machine) (cells held : List ℕ) where
     no-numbers noRow e out = refl
 
     pub step-silent : (out : List ℕ) → k ≢ 33 → k ≢ 34 → k ≢ 35 → k ≢ 36 → k ≢ 37 → k ≢ 38 → k ≢ 39 → StepCounted (Count 0) out (pushed out 0)
-    step-silent out h33 h34 h35 h36 h37 h38 h39 = step-counted (rowKind k) (Count 0) out (pushed out 0) refl (no-numbers (rowKind k) (kind-silent k h33 h34 h35 h36 h37 h38 h39) out)
+    step-silent out h33 h34 h35 h36 h37 h38 h39 = step-counted (rowKind k) (Count 0) out (pushed out 0) refl
+        (no-numbers (rowKind k) (kind-silent k h33 h34 h35 h36 h37 h38 h39) out)

@@ -20,10 +20,10 @@ use machine::frame::Frame;
 use machine::nodes::Node;
 use machine::nodes::node_at;
 ghost use Prim.Native.Nat.{_≤_};
+ghost use Rattle.machine.specs.CodeAnswers.{lent};
 ghost use Rattle.model.specs.Table.Ty.{bool, uint, pointer};
-ghost use Rattle.machine.specs.View.{lent};
-ghost use Rattle.recording.specs.Pushes.{pushed};
-ghost use Rattle.recording.specs.Records.{Plain, Recorded};
+ghost use Rattle.recording.specs.CodePushes.{pushed};
+ghost use Rattle.recording.specs.CodeRecords.{Plain, Recorded};
 
 // A node that is an operand of `user`, which takes a pointer.
 pub fn record_pointer<'a>(

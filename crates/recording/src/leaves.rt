@@ -14,12 +14,13 @@ ghost use mathlib.Core.Path.{_≡_};
 ghost use mathlib.Core.Bool.{false};
 ghost use mathlib.Core.List.{[]};
 ghost use Prim.Native.Nat.{_≤_};
+ghost use Rattle.machine.specs.CodeAnswers.{lent, operand};
 ghost use Rattle.model.specs.Table.Ty.{bool, uint};
 ghost use Rattle.model.specs.Eval.{ptr};
-ghost use Rattle.machine.specs.View.{places, varsOf, arraysOf, lent, operand};
-ghost use Rattle.machine.specs.Leaves.{loadOf};
-ghost use Rattle.recording.specs.Pushes.{pushed};
-ghost use Rattle.recording.specs.Records.{Plain, heldOf, pairOf, placedAt, cellNumbers, Records, HeldRecords, Silent};
+ghost use Rattle.machine.specs.View.{places, varsOf, arraysOf};
+ghost use Rattle.machine.specs.CodeLeaves.{loadOf};
+ghost use Rattle.recording.specs.CodePushes.{pushed};
+ghost use Rattle.recording.specs.CodeRecords.{Plain, heldOf, pairOf, placedAt, cellNumbers, Records, HeldRecords, Silent};
 
 // The answer with another place.
 pub fn placed(x: Answer, at: usize) -> Answer

@@ -9,7 +9,7 @@ ghost use Rattle.model.specs.Class.{tracked};
 ghost use Rattle.model.specs.Table.{nodeAt, marked};
 ghost use Rattle.model.specs.Writer.{heldReduced};
 ghost use Rattle.machine.specs.View.{tableFor};
-ghost use Rattle.recording.specs.Records.{heldOf, pairOf};
+ghost use Rattle.recording.specs.CodeRecords.{heldOf, pairOf};
 
 // Whether a node that says whether a pointer is valid is of kind 26, and not of 29, which only reduced tables have.
 pub fn is_plain_valid(t: &[u32], f: Frame, node: usize) -> bool

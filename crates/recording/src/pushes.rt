@@ -1,6 +1,6 @@
 // A number pushed onto a lent buffer.
 ghost use mathlib.Core.Path.{_≡_};
-ghost use Rattle.recording.specs.Pushes.{pushed, push};
+ghost use Rattle.recording.specs.CodePushes.{pushed, push};
 
 // Puts v at a place and answers the place after it; a buffer that has no such place is left as it is.
 pub fn push(out: &mut [u32], at: usize, v: u32) -> usize

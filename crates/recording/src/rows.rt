@@ -14,15 +14,16 @@ use machine::steps::row_word;
 ghost use mathlib.Core.Path.{_≡_};
 ghost use mathlib.Core.List.{List, []};
 ghost use Prim.Native.Nat.{ℕ, _≤_, _<_, _^_};
+ghost use Rattle.machine.specs.CodeAnswers.{lent};
 ghost use Rattle.model.specs.Table.{typeOf};
 ghost use Rattle.model.specs.Table.Row.{assign, store, assert, assume, array, loop, loopEnd};
 ghost use Rattle.model.specs.Step.{step};
 ghost use Rattle.model.specs.Writer.{stepChoices};
-ghost use Rattle.machine.specs.View.{tableFor, stateOf, lent};
-ghost use Rattle.machine.specs.Steps.{Within};
-ghost use Rattle.recording.specs.Pushes.{pushed, pushAll};
-ghost use Rattle.recording.specs.Records.{Plain, heldOf, pairOf, Recorded};
-ghost use Rattle.recording.specs.Rows.{Counted, countedOf, RowCounted, boundsFor};
+ghost use Rattle.machine.specs.View.{tableFor, stateOf};
+ghost use Rattle.machine.specs.CodeSteps.{Within};
+ghost use Rattle.recording.specs.CodePushes.{pushed, pushAll};
+ghost use Rattle.recording.specs.CodeRecords.{Plain, heldOf, pairOf, Recorded};
+ghost use Rattle.recording.specs.CodeRows.{Counted, countedOf, RowCounted, boundsFor};
 
 // How many places of the buffer are used; or that the row comes to no end.
 pub enum Numbers {

@@ -1,6 +1,6 @@
 -- What the reduction answers, and what it leaves in the lent table, by the checks that it has come through.
 -- Assumes nothing.
-use mathlib.Core.Path.{_≡_, refl, sym, ap, _∙_}
+use mathlib.Core.Path.{_≡_}
 use mathlib.Core.Logic.{_≢_}
 use Prim.Native.Nat.{ℕ}
 use mathlib.Core.List.{List}
@@ -11,23 +11,23 @@ use Rattle.model.specs.Reduce.{reduce}
 use Rattle.table.specs.declared.Verdict.{Verdict}
 use Rattle.table.specs.declared.Verdict.the-variants.{Passes, Refused}
 use Rattle.table.specs.Checks.{tableCheck}
-use Rattle.reduction.specs.Reduction.{pairCheck, reduceAnswer, reduceBuffer}
+use Rattle.reduction.specs.Reduction.{placesCheck, reduceAnswer, reduceBuffer}
 
-module _ (w : List ℕ) (c1 c2 : ℕ) (lent : List ℕ) where
+module _ (w ps lent : List ℕ) where
   -- the answer v with the lent table as it is in out
   abbrev Answered : Verdict → List ℕ → Type 0
-  Answered v out = (v ≡ reduceAnswer w c1 c2 (length lent)) × (out ≡ reduceBuffer w c1 c2 lent)
+  Answered v out = (v ≡ reduceAnswer w ps (length lent)) × (out ≡ reduceBuffer w ps lent)
 
   pub by-table : (t : Verdict) {n p : ℕ} → t ≡ tableCheck plain w → t ≡ Refused n p → Answered t lent
   unfolding reduceAnswer reduceBuffer
   by-table t e h = (rw (← e, h), rw (← e, h))
 
   module _ {t : Verdict} (e : t ≡ tableCheck plain w) (h : t ≡ Passes) where
-    pub by-pair : (q : Verdict) {n p : ℕ} → q ≡ pairCheck c1 c2 → q ≡ Refused n p → Answered q lent
+    pub by-pair : (q : Verdict) {n p : ℕ} → q ≡ placesCheck ps → q ≡ Refused n p → Answered q lent
     unfolding reduceAnswer reduceBuffer
     by-pair q d k = (rw (← e, h, ← d, k), rw (← e, h, ← d, k))
 
-    module _ {q : Verdict} (d : q ≡ pairCheck c1 c2) (k : q ≡ Passes) where
+    module _ {q : Verdict} (d : q ≡ placesCheck ps) (k : q ≡ Passes) where
       pub by-size : length lent ≢ length w → Answered (Refused 14 0) lent
       unfolding reduceAnswer reduceBuffer
       by-size ne = (rw (← e, h, ← d, k, ne-eqb _ _ ne), rw (← e, h, ← d, k, ne-eqb _ _ ne))

@@ -1,2 +1,2 @@
--- The pair check and the reduction with its lent table.
+-- The check of the places and the reduction with its lent table.
 pub mod Reduction

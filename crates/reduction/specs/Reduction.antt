@@ -1,27 +1,27 @@
--- The pair check and the reduction with its lent table: number and place, and each word of the lent table.
+-- The check of the places and the reduction with its lent table: number and place, and each word of the lent table.
 use Prim.Native.Nat.{ℕ}
 use mathlib.Core.List.{List}
 use lib.ListN.{length}
 use Rattle.lists.specs.If.{if_then_else_}
-use Rattle.model.specs.Class.{acceptedPair}
+use Rattle.model.specs.Class.{acceptedPlaces}
 use Rattle.model.specs.State.MachineKind.{plain}
 use Rattle.model.specs.Reduce.{reduce}
 use Rattle.table.specs.declared.Verdict.{Verdict}
 use Rattle.table.specs.declared.Verdict.the-variants.{Passes, Refused}
 use Rattle.table.specs.Checks.{tableCheck, andThen, sizeCheck}
 
--- 13: "not c1 + 1 < c2", at place 0
-abbrev pub pairCheck : ℕ → ℕ → Verdict
-pairCheck c1 c2 = if acceptedPair c1 c2 then Passes else Refused 13 0
+-- 13: "not c1 + 1 < c2", of each place and the next, at place 0
+abbrev pub placesCheck : List ℕ → Verdict
+placesCheck ps = if acceptedPlaces ps then Passes else Refused 13 0
 
 -- 4 to 12, 13, 14: "reduced table not as long as its table" (R12)
-unfoldable pub reduceAnswer : List ℕ → ℕ → ℕ → ℕ → Verdict
-reduceAnswer w c1 c2 size = andThen (tableCheck plain w) (andThen (pairCheck c1 c2) (sizeCheck size (length w)))
+unfoldable pub reduceAnswer : List ℕ → List ℕ → ℕ → Verdict
+reduceAnswer w ps size = andThen (tableCheck plain w) (andThen (placesCheck ps) (sizeCheck size (length w)))
 
 -- the lent table at exit: the reduction, or as it was
 abbrev pub reducedOr : Verdict → List ℕ → List ℕ → List ℕ
 reducedOr Passes w lent = reduce w
 reducedOr (Refused number place) w lent = lent
 
-unfoldable pub reduceBuffer : List ℕ → ℕ → ℕ → List ℕ → List ℕ
-reduceBuffer w c1 c2 lent = reducedOr (reduceAnswer w c1 c2 (length lent)) w lent
+unfoldable pub reduceBuffer : List ℕ → List ℕ → List ℕ → List ℕ
+reduceBuffer w ps lent = reducedOr (reduceAnswer w ps (length lent)) w lent

@@ -1,4 +1,4 @@
-// The pair check, and the reduction of a table into a lent table.
+// The check of the places, and the reduction of a table into a lent table.
 mod words;
 
 use table::Verdict;
@@ -6,11 +6,12 @@ use table::check_table;
 use words::reduce_words;
 ghost use mathlib.Core.Path.{_≡_};
 ghost use lib.ListN.{length};
-ghost use Rattle.reduction.specs.Reduction.{pairCheck, reduceAnswer, reduceBuffer};
+ghost use Rattle.model.specs.Class.{pair};
+ghost use Rattle.reduction.specs.Reduction.{placesCheck, reduceAnswer, reduceBuffer};
 
 // 13: the places of a pair have a gap.
 pub fn check_pair(c1: u32, c2: u32) -> Verdict
-    ensures { λ r. ⌜ r ≡ pairCheck c1 c2 ⌝ }
+    ensures { λ r. ⌜ r ≡ placesCheck (pair c1 c2) ⌝ }
 {
     let next = c1 as u64 + 1;
     if next < c2 as u64 {
@@ -22,8 +23,8 @@ pub fn check_pair(c1: u32, c2: u32) -> Verdict
 // The reduction of a plain table that passes, into a lent table as long as it; 4 to 12, 13 and 14 in that order, and a refusal leaves
 // the lent table as it was.
 pub fn reduce_table(words: &[u32], c1: u32, c2: u32, lent: &mut [u32]) -> Verdict
-    ensures answer { λ r. ⌜ r ≡ reduceAnswer (now (words .entry)) c1 c2 (length (now (lent .entry))) ⌝ }
-    ensures buffer { λ r. ⌜ now (lent .exit) ≡ reduceBuffer (now (words .entry)) c1 c2 (now (lent .entry)) ⌝ }
+    ensures answer { λ r. ⌜ r ≡ reduceAnswer (now (words .entry)) (pair c1 c2) (length (now (lent .entry))) ⌝ }
+    ensures buffer { λ r. ⌜ now (lent .exit) ≡ reduceBuffer (now (words .entry)) (pair c1 c2) (now (lent .entry)) ⌝ }
 {
     let table = check_table(words, false);
     let Verdict::Passes = table else {

@@ -17,7 +17,7 @@ use Rattle.lists.proofs.TabLaws.{at-tab, length-tab}
 use Rattle.model.specs.Table.{Nest, Table, Ty, count, nestAt, nested, openAt, typeAt}
 use Rattle.model.specs.Table.Ty.{bool, uint, pointer}
 use Rattle.model.specs.Table.Nest.{opens, closes, neither}
-use Rattle.model.specs.State.{Loop, MachineKind, classed, sortOf}
+use Rattle.model.specs.State.{Loop, MachineKind, classed, formOf}
 use Rattle.model.specs.State.Value.{Truth, Uint, Class, Pointer}
 use Rattle.model.specs.Accepted.{CanHave, Holds, Regular}
 use Rattle.model.proofs.ReducedAccepted.{R}
@@ -49,7 +49,7 @@ sortCode Sort.Class = 4
 sortCode Sort.Pointer = 3
 
 bool-small : (x : ℕ) (b : Bool) → boolOr x ≡ Truth b → x ≤ 1
-bool-small x b e = elim (decLe x 1) [ yes h ↦ h | no h ↦ absurd (omega (numbers, ap sortOf (rw (lt-leb x 1 (omega numbers)) at e))) ]
+bool-small x b e = elim (decLe x 1) [ yes h ↦ h | no h ↦ absurd (omega (numbers, ap formOf (rw (lt-leb x 1 (omega numbers)) at e))) ]
 
 module _ (t : List ℕ) (f : Frame) (m : Machine) (cells : List ℕ) (ps : List ℕ) (k : MachineKind) (C : CanHave ps k (tableFor t f) (stateOf t f m cells)) where
   open-is : m .«open» ≡ length (openAt (tableFor t f) (m .row))
@@ -80,13 +80,16 @@ module _ (t : List ℕ) (f : Frame) (m : Machine) (cells : List ℕ) (ps : List 
   unfolding sortIn
   bools-small q i h e =
       go (classed (kindOf f) (tableFor t f) i) refl (typeAt (tableFor t f) i) refl e
-      (subst (λ (k : MachineKind). Holds (classed k (tableFor t f) i) (length (stateOf t f m cells .arrays)) (typeAt (tableFor t f) i) (getD (varsOf t f (m .numbers) (m .bases)) i (Uint 0))) q (C .variable i h))
+      (subst (λ (k : MachineKind). Holds (classed k (tableFor t f) i) (length (stateOf t f m cells .arrays)) (typeAt (tableFor t f) i)
+          (getD (varsOf t f (m .numbers) (m .bases)) i (Uint 0))) q (C .variable i h))
     where
       go : (b : Bool) → classed (kindOf f) (tableFor t f) i ≡ b → (w : Ty) → typeAt (tableFor t f) i ≡ w → (if b then Sort.Class else sortFor w) ≡ Sort.Bool
-          → Holds (classed (kindOf f) (tableFor t f) i) (length (stateOf t f m cells .arrays)) (typeAt (tableFor t f) i) (getD (varsOf t f (m .numbers) (m .bases)) i (Uint 0)) → getD (m .numbers) i 0 ≤ 1
+          → Holds (classed (kindOf f) (tableFor t f) i) (length (stateOf t f m cells .arrays)) (typeAt (tableFor t f) i)
+              (getD (varsOf t f (m .numbers) (m .bases)) i (Uint 0)) → getD (m .numbers) i 0 ≤ 1
       go true u w v z g = absurd (omega (numbers, ap sortCode z))
       go false u bool v z g =
           let g′ : Holds false (length (stateOf t f m cells .arrays)) bool (getD (varsOf t f (m .numbers) (m .bases)) i (Uint 0)) = rw (u, v) at g in
-          bool-small (getD (m .numbers) i 0) (g′ .0) (ap (λ (x : Sort). bySort x (getD (m .numbers) i 0) (getD (m .bases) i 0)) (sym e) ∙ sym (var-is i h) ∙ g′ .1)
+          bool-small (getD (m .numbers) i 0) (g′ .0)
+              (ap (λ (x : Sort). bySort x (getD (m .numbers) i 0) (getD (m .bases) i 0)) (sym e) ∙ sym (var-is i h) ∙ g′ .1)
       go false u uint v z g = absurd (omega (numbers, ap sortCode z))
       go false u pointer v z g = absurd (omega (numbers, ap sortCode z))

@@ -7,6 +7,7 @@ use mathlib.Core.List.{List, [], _∷_}
 use lib.ListN.{length, drop, getD}
 use types.Run.{OneOf, miss}
 use denote.Enum.Declared.{tagOf}
+use Rattle.runs.specs.Ends.{endOf, reportOf}
 use Rattle.model.specs.Work.{Out}
 use Rattle.model.specs.Work.Out.{gives}
 use Rattle.model.specs.State.{State}
@@ -23,10 +24,11 @@ use Rattle.machine.specs.declared.rows.Outcome.the-variants.{Goes, AssertFalse,
 use Rattle.runs.specs.declared.Ran.{Ran}
 use Rattle.runs.specs.declared.End.the-variants as Code
 use Rattle.machine.specs.View.{places, kindOf, tableFor, stateOf}
-use Rattle.machine.specs.Rows.{moveOut, outcomeOut, Unmoved, Still}
-use Rattle.machine.specs.Steps.{Within}
-use Rattle.runs.specs.Steps.{Ready, endOf, reportOf, ran, stoppedOf, Reports}
-use Rattle.runs.proofs.RunLaws.{Going, going-on, never, run-done, run-out, run-next}
+use Rattle.machine.specs.CodeRows.{moveOut, outcomeOut, Unmoved, Still}
+use Rattle.machine.specs.CodeSteps.{Within}
+use Rattle.runs.specs.CodeSteps.{Ready, ran, stoppedOf, Reports}
+use Rattle.runs.specs.RecordPromises.{CanBe}
+use Rattle.runs.proofs.RunLaws.{going-on, never, run-done, run-out, run-next}
 use Rattle.runs.proofs.GoingLaws.{arrays-most, bools-small, loops-most, loops-room}
 
 -- a list each of whose words is one of 32 bits, from place k on
@@ -81,7 +83,8 @@ module _ (t : List ℕ) (f : Frame) where
 
   module _ (l : List ℕ) (limit : ℕ) (m₀ : Machine) (cs₀ : List ℕ) (m : Machine) (cells : List ℕ) (at steps : ℕ) (L : Left l limit m₀ cs₀ m cells at steps) where
     pub left-done : f .rows ≤ m .row → (r : Ran) → r ≡ ran Code.Done steps at m → reportOf t f l r cells ≡ whole limit 0 m₀ cs₀ l
-    left-done h r q = ap (λ (r : Ran). reportOf t f l r cells) q ∙ sym (run-done (places f) (tableFor t f) steps (stateOf t f m cells) (drop at l) (limit - steps) h) ∙ L .same
+    left-done h r q = ap (λ (r : Ran). reportOf t f l r cells) q
+        ∙ sym (run-done (places f) (tableFor t f) steps (stateOf t f m cells) (drop at l) (limit - steps) h) ∙ L .same
 
     module _ (inside : m .row < f .rows) where
       pub left-out : steps ≡ limit → (r : Ran) → r ≡ ran Code.OutOfSteps steps at m → reportOf t f l r cells ≡ whole limit 0 m₀ cs₀ l
@@ -96,7 +99,7 @@ module _ (t : List ℕ) (f : Frame) where
             sym (run-next (places f) (tableFor t f) steps (stateOf t f m cells) (drop at l) inside (limit - suc steps) e)
             ∙ ap (λ (k : ℕ). whole k steps m cells (drop at l)) (let z : suc (limit - suc steps) ≡ limit - steps = omega (numbers, u) in z) ∙ L .same
 
-        going : Going (places f) (kindOf f) (tableFor t f) (stateOf t f m cells)
+        going : CanBe (kindOf f) (places f) (tableFor t f) (stateOf t f m cells)
         going = record { can = L .ready .can; regular = L .ready .regular }
 
         pub left-again : (m′ : Machine) (cells′ : List ℕ) (o : Outcome) (nx : ℕ) → moveOut t f m′ cells′ l o ≡ stepped-to m cells (drop at l) → o ≡ Goes nx
@@ -104,10 +107,18 @@ module _ (t : List ℕ) (f : Frame) where
         unfolding outcomeOut
         left-again m′ cells′ o nx e q n =
             let e′ : stepped-to m cells (drop at l) ≡ gives (to (stateOf t f m′ cells′)) (drop nx l) = sym e ∙ ap (moveOut t f m′ cells′ l) q in
-            let G = going-on (places f) (kindOf f) (tableFor t f) (L .ready .accepted) (stateOf t f m cells) going inside (drop at l) nl (stateOf t f m′ cells′) (drop nx l) e′ in
+            let G = going-on (places f) (kindOf f) (tableFor t f) (L .ready .accepted) (stateOf t f m cells) going inside (drop at l) nl
+                (stateOf t f m′ cells′) (drop nx l) e′ in
             let s : suc steps ≡ steps + 1 = omega numbers in
             record {
-              ready = record { accepted = L .ready .accepted; laid = L .ready .laid; few = L .ready .few; can = G .can; regular = G .regular; room = omega (numbers, n, L .ready .room) };
+              ready = record {
+                accepted = L .ready .accepted;
+                laid = L .ready .laid;
+                few = L .ready .few;
+                can = G .can;
+                regular = G .regular;
+                room = omega (numbers, n, L .ready .room);
+              };
               upto = omega (numbers, u);
               same = subst (λ (n : ℕ). whole (limit - n) n m′ cells′ (drop nx l) ≡ whole limit 0 m₀ cs₀ l) s (by-step e′);
             }
@@ -115,12 +126,15 @@ module _ (t : List ℕ) (f : Frame) where
         moved-none : (m′ : Machine) (cells′ : List ℕ) → (m′ ≡ m) × (cells′ ≡ cells) → stateOf t f m′ cells′ ≡ stateOf t f m cells
         moved-none m′ cells′ v = ap (λ (m : Machine). stateOf t f m cells′) (v .0) ∙ ap (λ (cs : List ℕ). stateOf t f m cs) (v .1)
 
-        pub left-stop : (m′ : Machine) (cells′ : List ℕ) (o : Outcome) → moveOut t f m′ cells′ l o ≡ stepped-to m cells (drop at l) → Unmoved o m′ m cells′ cells
-            → OneOf (1 ∷ 2 ∷ 3 ∷ 4 ∷ 5 ∷ 6 ∷ 7 ∷ []) (tagOf outcome o) → (r : Ran) → r ≡ stoppedOf o steps at m′ → reportOf t f l r cells′ ≡ whole limit 0 m₀ cs₀ l
+        pub left-stop : (m′ : Machine) (cells′ : List ℕ) (o : Outcome) → moveOut t f m′ cells′ l o ≡ stepped-to m cells (drop at l)
+            → Unmoved o m′ m cells′ cells
+            → OneOf (1 ∷ 2 ∷ 3 ∷ 4 ∷ 5 ∷ 6 ∷ 7 ∷ []) (tagOf outcome o) → (r : Ran) → r ≡ stoppedOf o steps at m′
+                → reportOf t f l r cells′ ≡ whole limit 0 m₀ cs₀ l
         unfolding outcomeOut Still
         left-stop m′ cells′ o e v h r q = ap (λ (r : Ran). reportOf t f l r cells′) q ∙ go o e v h
           where
-            go : (o : Outcome) → moveOut t f m′ cells′ l o ≡ stepped-to m cells (drop at l) → Unmoved o m′ m cells′ cells → OneOf (1 ∷ 2 ∷ 3 ∷ 4 ∷ 5 ∷ 6 ∷ 7 ∷ []) (tagOf outcome o)
+            go : (o : Outcome) → moveOut t f m′ cells′ l o ≡ stepped-to m cells (drop at l) → Unmoved o m′ m cells′ cells
+                → OneOf (1 ∷ 2 ∷ 3 ∷ 4 ∷ 5 ∷ 6 ∷ 7 ∷ []) (tagOf outcome o)
                 → reportOf t f l (stoppedOf o steps at m′) cells′ ≡ whole limit 0 m₀ cs₀ l
             go (Goes nx) e v h = absurd (miss (1 ∷ 2 ∷ 3 ∷ 4 ∷ 5 ∷ 6 ∷ 7 ∷ []) 0 tt h)
             go (AssertFalse nx) e v h = ap (λ (s : State). ended assertFalse (suc steps) s (drop nx l)) (moved-none m′ cells′ v) ∙ by-step (sym e)

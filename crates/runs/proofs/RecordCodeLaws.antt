@@ -5,7 +5,7 @@ use mathlib.Core.Logic.{_≢_}
 use Prim.Native.Nat.{ℕ, zero, suc, _+_, _-_, _≤_, _<_}
 use native.Mathlib.Omega.{arith as numbers}
 use native.Mathlib.Numerals.{add-one}
-use mathlib.Core.Bool.{Bool, true, false, not, _&&_, _||_}
+use mathlib.Core.Bool.{Bool, true, false, not, _&&_, _||_, false≢true}
 use mathlib.Core.List.{List, [], _∷_, map}
 use lib.ListN.{length, getD, drop}
 use lib.Seq.{drop-drop}
@@ -19,22 +19,25 @@ use Rattle.table.specs.Code.{nest, nestNumber}
 use Rattle.model.specs.Table.{Table, Ty, typeAt, rowAt, Nest, nested, nestAt, openAt}
 use Rattle.model.specs.Table.Ty.{bool, uint, pointer}
 use Rattle.model.specs.Table.Nest.{opens, closes, neither}
-use Rattle.model.specs.State.{Array, Loop, classed}
+use Rattle.model.specs.Class.{candidate, class, classHeld, pair}
+use Rattle.model.specs.Table.{most}
+use Rattle.model.specs.State.{Array, Loop, classed, placesIn}
 use Rattle.model.specs.State.MachineKind.{reduced}
 use Rattle.model.specs.State.Value.{Truth, Uint}
-use Rattle.model.specs.Eval.{sizeOf, used}
+use Rattle.model.specs.Eval.{sizeOf, cellsLaid}
 use Rattle.machine.specs.declared.Machine.{Machine}
 use Rattle.machine.specs.declared.frame.Frame.{Frame}
 use Rattle.machine.specs.declared.variables.Sort.{Sort}
 use Rattle.machine.specs.declared.variables.Sort.the-variants as Sort
-use Rattle.machine.specs.View.{places, placesOf, kindOf, tableFor, stateOf, sortFor, sortIn, bySort, boolOr, varsOf, arrayIn, arraysOf, loopsOf}
-use Rattle.machine.specs.News.{sizeAt}
+use Rattle.machine.specs.View.{places, kindOf, tableFor, stateOf, sortFor, sortIn, bySort, boolOr, varsOf, arrayIn, arraysOf, loopsOf}
+use Rattle.machine.specs.CodeNews.{sizeAt}
 use Rattle.machine.proofs.ViewLaws.{count-arrays}
 use Rattle.machine.proofs.LoopLaws.{loops-split}
 use Rattle.runs.specs.declared.loops.Walk.{Walk}
 use Rattle.runs.specs.declared.loops.Walk.the-variants.{On, Differs}
-use Rattle.runs.specs.Record.{sameNumbers, loopsAround, startsWithin, holdsClass, ofTheType, variableFits, variablesFit, inSequence, kindsFit, arraysFit, recordFits}
-use Rattle.runs.specs.RecordCode.{rowsOf, nestedBy, metBy, walkOut, closedIn, Walks, fitsBySort, arrayFits}
+use Rattle.runs.specs.Record.{sameNumbers, loopsAround, startsWithin, holdsClass, ofTheType, variableFits, variablesFit, inSequence, kindsFit}
+use Rattle.runs.specs.Record.{arraysFit, recordFits}
+use Rattle.runs.specs.CodeRecord.{rowsOf, nestedBy, metBy, walkOut, closedIn, Walks, fitsBySort, arrayFits}
 
 -- ---- the rows of the loops
 pub rows-of : (n : ℕ) (rs ss es : List ℕ) → rowsOf n rs ≡ map (λ (l : Loop). l .row) (loopsOf n rs ss es)
@@ -84,7 +87,11 @@ module _ (rows : List ℕ) (nest closed left i : ℕ) where
   walk-inner {k} e z = record { most = omega (numbers, z); walked = λ os. rw (e, z) }
 
   pub walk-closed : nest ≡ 2 → Walks rows nest closed left i (On (closed + 1) left)
-  walk-closed e = record { most = omega numbers; walked = λ os. rw e (ap (λ (n : ℕ). sameNumbers (rowsOf left rows) (drop n os)) (let z : closed + 1 ≡ 1 + closed = omega numbers in z) ∙ ap (sameNumbers (rowsOf left rows)) (sym (drop-drop closed 1 os))) }
+  walk-closed e = record {
+    most = omega numbers;
+    walked = λ os. rw e (ap (λ (n : ℕ). sameNumbers (rowsOf left rows) (drop n os)) (let z : closed + 1 ≡ 1 + closed = omega numbers in z)
+        ∙ ap (sameNumbers (rowsOf left rows)) (sym (drop-drop closed 1 os)));
+  }
 
   pub walk-past : nest ≢ 1 → nest ≢ 2 → Walks rows nest closed left i (On closed left)
   walk-past e h = record { most = omega numbers; walked = λ os. rw (ne-eqb nest 1 e, ne-eqb nest 2 h) }
@@ -108,11 +115,13 @@ module _ (t cells : List ℕ) (f : Frame) (m : Machine) where
   pub around-all : Around 0 (m .open) (m .row)
   around-all = ap (λ (l : List ℕ). sameNumbers l (openAt (tableFor t f) (m .row))) (rows-of (m .open) (m .«loop_rows») (m .starts) (m .ends))
 
-  module _ (closed left j i : ℕ) (A : Around closed left j) (p : j ≡ suc i) (k : ℕ) (e : k ≡ nest (rowAt (tableFor t f) i .kind)) (r : Walk) (W : Walks (m .«loop_rows») k closed left i r) where
+  module _ (closed left j i : ℕ) (A : Around closed left j) (p : j ≡ suc i) (k : ℕ) (e : k ≡ nest (rowAt (tableFor t f) i .kind)) (r : Walk)
+      (W : Walks (m .«loop_rows») k closed left i r) where
     walks : walkOut (m .«loop_rows») r (openAt (tableFor t f) i) ≡ loopsAround (tableFor t f) (stateOf t f m cells)
     walks =
         W .walked (openAt (tableFor t f) i)
-        ∙ ap (λ (os : List ℕ). sameNumbers (rowsOf left (m .«loop_rows»)) (drop closed os)) (sym (before-row (tableFor t f) i k e) ∙ ap (openAt (tableFor t f)) (sym p)) ∙ A
+        ∙ ap (λ (os : List ℕ). sameNumbers (rowsOf left (m .«loop_rows»)) (drop closed os))
+            (sym (before-row (tableFor t f) i k e) ∙ ap (openAt (tableFor t f)) (sym p)) ∙ A
 
     pub around-most : {c n : ℕ} → r ≡ On c n → c ≤ suc closed
     around-most q = subst (λ (r : Walk). closedIn r ≤ suc closed) q (W .most)
@@ -125,7 +134,8 @@ module _ (t cells : List ℕ) (f : Frame) (m : Machine) where
 
   pub around-done : (closed left i : ℕ) → Around closed left i → i ≡ 0 → eqb left 0 ≡ loopsAround (tableFor t f) (stateOf t f m cells)
   unfolding openAt rowsOf
-  around-done closed left i A z = go closed left ∙ ap (λ (n : ℕ). sameNumbers (rowsOf left (m .«loop_rows»)) (drop closed (openAt (tableFor t f) n))) (sym z) ∙ A
+  around-done closed left i A z = go closed left
+      ∙ ap (λ (n : ℕ). sameNumbers (rowsOf left (m .«loop_rows»)) (drop closed (openAt (tableFor t f) n))) (sym z) ∙ A
     where
       go : (closed left : ℕ) → eqb left 0 ≡ sameNumbers (rowsOf left (m .«loop_rows»)) (drop closed [])
       go zero zero = refl
@@ -148,10 +158,34 @@ pub starts-none : (rs ss es : List ℕ) (n : ℕ) → n ≡ 0 → true ≡ start
 unfolding loopsOf tab listed
 starts-none rs ss es n e = rw e
 
+-- ---- the classes of a pair
+
+-- the class between the places, and a class past those of both
+pub after-first : (c1 c2 k : ℕ) → k ≡ 2 → c1 + 1 ≡ candidate 0 (pair c1 c2) k
+unfolding candidate
+after-first c1 c2 k e = rw e (omega numbers)
+
+pub past-both : (c1 c2 k : ℕ) → 4 ≤ k → c2 + 1 ≡ candidate 0 (pair c1 c2) k
+unfolding candidate
+past-both c1 c2 zero h = absurd (omega numbers)
+past-both c1 c2 (suc zero) h = absurd (omega numbers)
+past-both c1 c2 (suc (suc zero)) h = absurd (omega numbers)
+past-both c1 c2 (suc (suc (suc zero))) h = absurd (omega numbers)
+past-both c1 c2 (suc (suc (suc (suc k)))) h = omega numbers
+
+module _ (c1 c2 k : ℕ) {n : ℕ} (e : n ≡ candidate 0 (pair c1 c2) k) where
+  pub held-not : most < n → false ≡ classHeld (pair c1 c2) k
+  unfolding classHeld
+  held-not h = rw (← e, lt-leb n most h)
+
+  pub held-by : n ≤ most → {q : ℕ} → q ≡ class (pair c1 c2) n → eqb q k ≡ classHeld (pair c1 c2) k
+  unfolding classHeld
+  held-by h d = rw (d, ← e, le-leb n most h)
+
 -- ---- the variables
 module _ (t cells : List ℕ) (f : Frame) (m : Machine) where
   abbrev fitting : ℕ → Bool
-  fitting i = variableFits (kindOf f) (f .c1) (f .c2) (tableFor t f) (stateOf t f m cells) i
+  fitting i = variableFits (kindOf f) (places f) (tableFor t f) (stateOf t f m cells) i
 
   bool-by : (count x : ℕ) → ofTheType count bool (boolOr x) ≡ leb x 1
   bool-by count x = go (leb x 1)
@@ -161,22 +195,35 @@ module _ (t cells : List ℕ) (f : Frame) (m : Machine) where
       go false = refl
 
   by-sort : (b : Bool) (w : Ty) (x base : ℕ)
-      → (if b then holdsClass (f .c1) (f .c2) (bySort (if b then Sort.Class else sortFor w) x base) else ofTheType (m .count) w (bySort (if b then Sort.Class else sortFor w) x base))
+      → (b ≡ true → places f ≡ pair (f .c1) (f .c2))
+      → (if b then holdsClass (places f) (bySort (if b then Sort.Class else sortFor w) x base)
+          else ofTheType (m .count) w (bySort (if b then Sort.Class else sortFor w) x base))
       ≡ fitsBySort f (m .count) (if b then Sort.Class else sortFor w) x base
-  by-sort true w x base = refl
-  by-sort false bool x base = bool-by (m .count) x
-  by-sort false uint x base = refl
-  by-sort false pointer x base = refl
+  by-sort true w x base e = rw (e refl)
+  by-sort false bool x base e = bool-by (m .count) x
+  by-sort false uint x base e = refl
+  by-sort false pointer x base e = refl
+
+  -- only the reduced machine has classes
+  classed-places : (i : ℕ) → classed (kindOf f) (tableFor t f) i ≡ true → places f ≡ pair (f .c1) (f .c2)
+  unfolding places
+  classed-places i e = go (f .classes) e
+    where
+      go : (b : Bool) → classed (machineOf b) (tableFor t f) i ≡ true → placesIn (machineOf b) (pair (f .c1) (f .c2)) ≡ pair (f .c1) (f .c2)
+      go true h = refl
+      go false h = absurd (false≢true h)
 
   fits-is : (i : ℕ) → i < f .decls → fitting i ≡ fitsBySort f (m .count) (sortIn t f i) (getD (m .numbers) i 0) (getD (m .bases) i 0)
   unfolding sortIn varsOf
   fits-is i h =
-      rw (at-tab (f .decls) (λ i. bySort (sortIn t f i) (getD (m .numbers) i 0) (getD (m .bases) i 0)) (Uint 0) i h, count-arrays (m .count) (m .firsts) (m .lengths) (m .shapes))
-      (by-sort (classed (kindOf f) (tableFor t f) i) (typeAt (tableFor t f) i) (getD (m .numbers) i 0) (getD (m .bases) i 0))
+      rw (at-tab (f .decls) (λ i. bySort (sortIn t f i) (getD (m .numbers) i 0) (getD (m .bases) i 0)) (Uint 0) i h, count-arrays (m .count) (m .firsts)
+          (m .lengths) (m .shapes))
+      (by-sort (classed (kindOf f) (tableFor t f) i) (typeAt (tableFor t f) i) (getD (m .numbers) i 0) (getD (m .bases) i 0) (classed-places i))
 
-  vars-by : variablesFit (kindOf f) (f .c1) (f .c2) (tableFor t f) (stateOf t f m cells) ≡ all (f .decls) fitting
+  vars-by : variablesFit (kindOf f) (places f) (tableFor t f) (stateOf t f m cells) ≡ all (f .decls) fitting
   unfolding varsOf
-  vars-by = rw (eq-eqb (length (varsOf t f (m .numbers) (m .bases))) (f .decls) (length-tab (f .decls) (λ i. bySort (sortIn t f i) (getD (m .numbers) i 0) (getD (m .bases) i 0))))
+  vars-by = rw (eq-eqb (length (varsOf t f (m .numbers) (m .bases))) (f .decls)
+      (length-tab (f .decls) (λ i. bySort (sortIn t f i) (getD (m .numbers) i 0) (getD (m .bases) i 0))))
 
   -- those below i fit
   abbrev pub Fits : ℕ → Type 0
@@ -191,10 +238,10 @@ module _ (t cells : List ℕ) (f : Frame) (m : Machine) where
     vars-next F g = all-more fitting i F (fits-is i h ∙ rw (← e, g))
 
     pub vars-off : fitsBySort f (m .count) sort (getD (m .numbers) i 0) (getD (m .bases) i 0) ≡ false
-        → false ≡ variablesFit (kindOf f) (f .c1) (f .c2) (tableFor t f) (stateOf t f m cells)
+        → false ≡ variablesFit (kindOf f) (places f) (tableFor t f) (stateOf t f m cells)
     vars-off g = sym (vars-by ∙ all-stop (f .decls) fitting i h (fits-is i h ∙ rw (← e, g)))
 
-  pub vars-done : (i : ℕ) → Fits i → i ≡ f .decls → true ≡ variablesFit (kindOf f) (f .c1) (f .c2) (tableFor t f) (stateOf t f m cells)
+  pub vars-done : (i : ℕ) → Fits i → i ≡ f .decls → true ≡ variablesFit (kindOf f) (places f) (tableFor t f) (stateOf t f m cells)
   vars-done i F e = sym (vars-by ∙ ap (λ (n : ℕ). all n fitting) (sym e) ∙ F)
 
 -- ---- the arrays
@@ -204,11 +251,11 @@ module _ (t cells : List ℕ) (f : Frame) (m : Machine) where
 
   abbrev part : ℕ → List Array → Bool
   part from rs =
-      inSequence (placesOf (kindOf f) (f .c1) (f .c2)) from rs
-      && (leb (from + used (placesOf (kindOf f) (f .c1) (f .c2)) rs) (length cells) && kindsFit (kindOf f) rs)
+      inSequence (places f) from rs
+      && (leb (from + cellsLaid (places f) rs) (length cells) && kindsFit (kindOf f) rs)
 
   abbrev whole : Bool
-  whole = arraysFit (kindOf f) (f .c1) (f .c2) (stateOf t f m cells)
+  whole = arraysFit (kindOf f) (places f) (stateOf t f m cells)
 
   -- what is left, from array i on, which must start at `from`
   abbrev pub Laying : ℕ → ℕ → Type 0
@@ -222,7 +269,7 @@ module _ (t cells : List ℕ) (f : Frame) (m : Machine) where
   laying-all h =
       let c : length (arrays-from 0 (m .count)) ≡ m .count = count-arrays (m .count) (m .firsts) (m .lengths) (m .shapes) in
       let z : m .count - 0 ≡ m .count = omega numbers in
-      let w : 0 + used (placesOf (kindOf f) (f .c1) (f .c2)) (arrays-from 0 (m .count)) ≡ used (placesOf (kindOf f) (f .c1) (f .c2)) (arrays-from 0 (m .count)) = omega numbers in
+      let w : 0 + cellsLaid (places f) (arrays-from 0 (m .count)) ≡ cellsLaid (places f) (arrays-from 0 (m .count)) = omega numbers in
       rw (z, w, c, le-leb (m .count) 16 h)
 
   kinds-by : (b : Bool) (r : Array) (rs : List Array) → kindsFit (machineOf b) (r ∷ rs) ≡ ((b || not (r .reduced)) && kindsFit (machineOf b) rs)
@@ -237,33 +284,34 @@ module _ (t cells : List ℕ) (f : Frame) (m : Machine) where
   one-array false k x y z = refl
 
   part-by : (from : ℕ) (r : Array) (rs : List Array)
-      → part from (r ∷ rs) ≡ (arrayFits f (r .start) from (r .reduced) && part (from + sizeOf (placesOf (kindOf f) (f .c1) (f .c2)) r) rs)
-  unfolding used
+      → part from (r ∷ rs) ≡ (arrayFits f (r .start) from (r .reduced) && part (from + sizeOf (places f) r) rs)
+  unfolding cellsLaid
   part-by from r rs =
-      let ps = placesOf (kindOf f) (f .c1) (f .c2) in
-      let s : from + (sizeOf ps r + used ps rs) ≡ from + sizeOf ps r + used ps rs = omega numbers in
+      let ps = places f in
+      let s : from + (sizeOf ps r + cellsLaid ps rs) ≡ from + sizeOf ps r + cellsLaid ps rs = omega numbers in
       rw (s, kinds-by (f .classes) r rs)
-      (one-array (eqb (r .start) from) (f .classes || not (r .reduced)) (inSequence ps (from + sizeOf ps r) rs) (leb (from + sizeOf ps r + used ps rs) (length cells)) (kindsFit (kindOf f) rs))
+      (one-array (eqb (r .start) from) (f .classes || not (r .reduced)) (inSequence ps (from + sizeOf ps r) rs)
+          (leb (from + sizeOf ps r + cellsLaid ps rs) (length cells)) (kindsFit (kindOf f) rs))
 
   module _ (from i : ℕ) (L : Laying from i) (h : i < m .count) where
     abbrev it : Array
     it = arrayIn (m .firsts) (m .lengths) (m .shapes) i
 
-    next-part : (arrayFits f (it .start) from (it .reduced) && part (from + sizeOf (placesOf (kindOf f) (f .c1) (f .c2)) it) (arrays-from (suc i) (m .count - suc i))) ≡ whole
+    next-part : (arrayFits f (it .start) from (it .reduced) && part (from + sizeOf (places f) it) (arrays-from (suc i) (m .count - suc i))) ≡ whole
     unfolding listed
     next-part =
         let n : m .count - i ≡ suc (m .count - suc i) = omega (numbers, h) in
         sym (part-by from it (arrays-from (suc i) (m .count - suc i))) ∙ ap (λ (n : ℕ). part from (arrays-from i n)) (sym n) ∙ L
 
     pub laying-next : {s : ℕ} → s ≡ sizeAt (places f) (m .lengths) (m .shapes) i → arrayFits f (it .start) from (it .reduced) ≡ true → Laying (from + s) (i + 1)
-    unfolding places
-    laying-next e g = rw (e, add-one i) (sym (ap (λ (b : Bool). b && part (from + sizeOf (placesOf (kindOf f) (f .c1) (f .c2)) it) (arrays-from (suc i) (m .count - suc i))) g) ∙ next-part)
+    laying-next e g = rw (e, add-one i)
+        (sym (ap (λ (b : Bool). b && part (from + sizeOf (places f) it) (arrays-from (suc i) (m .count - suc i))) g) ∙ next-part)
 
     pub laying-off : arrayFits f (it .start) from (it .reduced) ≡ false → false ≡ whole
-    laying-off g = sym (ap (λ (b : Bool). b && part (from + sizeOf (placesOf (kindOf f) (f .c1) (f .c2)) it) (arrays-from (suc i) (m .count - suc i))) g) ∙ next-part
+    laying-off g = sym (ap (λ (b : Bool). b && part (from + sizeOf (places f) it) (arrays-from (suc i) (m .count - suc i))) g) ∙ next-part
 
   pub laying-done : (from i : ℕ) → Laying from i → i ≡ m .count → leb from (length cells) ≡ whole
-  unfolding listed used
+  unfolding listed cellsLaid
   laying-done from i L e =
       let z : m .count - i ≡ 0 = omega (numbers, e) in
       let w : from ≡ from + 0 = omega numbers in
@@ -276,7 +324,7 @@ module _ (t cells : List ℕ) (f : Frame) (m : Machine) where
 -- ---- the conditions together
 module _ (t cells : List ℕ) (f : Frame) (m : Machine) where
   abbrev fits : Bool
-  fits = recordFits (kindOf f) (f .c1) (f .c2) (tableFor t f) (stateOf t f m cells)
+  fits = recordFits (kindOf f) (places f) (tableFor t f) (stateOf t f m cells)
 
   pub fits-row : f .rows < m .row → false ≡ fits
   unfolding recordFits
@@ -292,11 +340,11 @@ module _ (t cells : List ℕ) (f : Frame) (m : Machine) where
       unfolding recordFits
       fits-starts g = rw (le-leb (m .row) (f .rows) h, ← p, e, ← q, g)
 
-      module _ (g : b ≡ true) {d : Bool} (r : d ≡ variablesFit (kindOf f) (f .c1) (f .c2) (tableFor t f) (stateOf t f m cells)) where
+      module _ (g : b ≡ true) {d : Bool} (r : d ≡ variablesFit (kindOf f) (places f) (tableFor t f) (stateOf t f m cells)) where
         pub fits-variables : d ≡ false → false ≡ fits
         unfolding recordFits
         fits-variables i = rw (le-leb (m .row) (f .rows) h, ← p, e, ← q, g, ← r, i)
 
-        pub fits-arrays : d ≡ true → {x : Bool} → x ≡ arraysFit (kindOf f) (f .c1) (f .c2) (stateOf t f m cells) → x ≡ fits
+        pub fits-arrays : d ≡ true → {x : Bool} → x ≡ arraysFit (kindOf f) (places f) (stateOf t f m cells) → x ≡ fits
         unfolding recordFits
         fits-arrays i s = s ∙ rw (le-leb (m .row) (f .rows) h, ← p, e, ← q, g, ← r, i)

@@ -3,47 +3,43 @@
 use mathlib.Core.Path.{_≡_, subst}
 use Prim.Native.Nat.{ℕ, zero, suc, _-_, _≤_, _<_}
 use mathlib.Core.List.{List}
-use borrow.Author.Tests.{lt-ltb, le-ltb}
+use borrow.Author.Tests.{lt-leb, le-leb}
 use Rattle.model.specs.Table.{Table}
 use Rattle.model.specs.Work.{Out}
 use Rattle.model.specs.Work.Out.{gives, stuck}
 use Rattle.model.specs.State.{MachineKind, State}
-use Rattle.model.specs.Step.{Move, after, run, step}
+use Rattle.model.specs.Step.{Move, after, finished, run, step}
 use Rattle.model.specs.Step.End.{done, outOfSteps}
 use Rattle.model.specs.Step.Move.{to}
 use Rattle.model.specs.Step.Report.{ended}
-use Rattle.model.specs.Writer.{kept}
-use Rattle.model.specs.Accepted.{Accepted, CanHave, Regular}
+use Rattle.model.specs.Accepted.{Accepted, CanHave}
 use Rattle.model.specs.Demand3.{Numbers}
+use Rattle.runs.specs.RecordPromises.{CanBe}
 use Rattle.model.proofs.Safe.{Held}
 use Rattle.model.proofs.SafeStep.{MoveOk, safe-step}
 use Rattle.model.proofs.Kept.{Given, MoveRegular, keeps-step}
 
 module _ (ps : List ℕ) (t : Table) (n : ℕ) (s : State) (cs : List ℕ) where
-  pub run-done : (k : ℕ) → t .rows ≤ s .row → run ps t k n s cs ≡ ended done n s cs
-  unfolding run
-  run-done zero h = rw (le-ltb (s .row) (t .rows) h)
-  run-done (suc k) h = rw (le-ltb (s .row) (t .rows) h)
+  pub run-done : (k : ℕ) → t .rows ≤ s .here .row → run ps t k n s cs ≡ ended done n s cs
+  unfolding run finished
+  run-done zero h = rw (le-leb (t .rows) (s .here .row) h)
+  run-done (suc k) h = rw (le-leb (t .rows) (s .here .row) h)
 
-  module _ (h : s .row < t .rows) where
+  module _ (h : s .here .row < t .rows) where
     pub run-out : run ps t 0 n s cs ≡ ended outOfSteps n s cs
-    unfolding run
-    run-out = rw (lt-ltb (s .row) (t .rows) h)
+    unfolding run finished
+    run-out = rw (lt-leb (t .rows) (s .here .row) h)
 
     -- what the next step comes to
     module _ (k : ℕ) {o : Out Move} (e : step ps t s cs ≡ o) where
       pub run-next : run ps t (suc k) n s cs ≡ after n s cs o (run ps t k (suc n))
-      unfolding run
-      run-next = rw (lt-ltb (s .row) (t .rows) h, e)
+      unfolding run finished
+      run-next = rw (lt-leb (t .rows) (s .here .row) h, e)
 
--- a state that 15 does not refuse
-pub record Going (ps : List ℕ) (m : MachineKind) (t : Table) (s : State) : Type 0 where
-  pub can : CanHave ps m t s
-  pub regular : Regular ps m t s
-
-module _ (ps : List ℕ) (m : MachineKind) (t : Table) (A : Accepted m t) (s : State) (G : Going ps m t s) (h : s .row < t .rows) (cs : List ℕ) (n : Numbers cs) where
+module _ (ps : List ℕ) (m : MachineKind) (t : Table) (A : Accepted m t) (s : State) (G : CanBe m ps t s) (h : s .here .row < t .rows) (cs : List ℕ)
+    (n : Numbers cs) where
   -- a step that goes on keeps it
-  pub going-on : (s′ : State) (cs′ : List ℕ) → step ps t s cs ≡ gives (to s′) cs′ → Going ps m t s′
+  pub going-on : (s′ : State) (cs′ : List ℕ) → step ps t s cs ≡ gives (to s′) cs′ → CanBe m ps t s′
   going-on s′ cs′ e = record {
     can = subst (Held m (MoveOk m (CanHave ps m t)) cs) e (safe-step ps m t A s (G .can) h .held cs) .0;
     regular = subst (Given (MoveRegular ps m t)) e (keeps-step ps m t A s (G .can) (G .regular) h .kept cs n) .0;

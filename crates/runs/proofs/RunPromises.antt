@@ -1,78 +1,97 @@
--- A run that is not refused comes to an end of its machine, with a record that 15 does not refuse.
+-- What a run says where its table and its places pass: 14, 15, or an end of its machine with a record that 15 does not refuse.
 -- Assumes nothing.
-use mathlib.Core.Path.{_≡_, refl, sym}
-use Prim.Native.Nat.{ℕ, _≤_}
-use native.Mathlib.Omega.{arith as numbers}
+use mathlib.Core.Path.{_≡_, refl, sym, subst}
+use Prim.Native.Nat.{ℕ}
 use mathlib.Core.Bool.{Bool, true, false}
 use mathlib.Core.List.{List}
 use lib.ListN.{length}
-use Rattle.lists.specs.If.{if_then_else_}
 use Rattle.table.specs.declared.Verdict.{Verdict}
 use Rattle.table.specs.declared.Verdict.the-variants.{Passes, Refused}
-use Rattle.table.specs.Checks.{andThen}
-use Rattle.table.proofs.Passing.{passing, accepted, both-pass}
-use Rattle.model.specs.Table.{Table, tableOf}
-use Rattle.model.specs.State.{MachineKind, most, State, fresh}
-use Rattle.model.specs.State.MachineKind.{reduced}
-use Rattle.model.specs.Class.{acceptedPair}
+use Rattle.table.specs.Checks.{tableCheck}
+use Rattle.table.proofs.Passing.{passing, accepted}
+use Rattle.model.specs.Table.{tableOf}
+use Rattle.model.specs.State.{MachineKind, State, fresh}
+use Rattle.model.specs.Class.{acceptedPlaces}
 use Rattle.model.specs.Step.{Report, run}
 use Rattle.model.specs.Step.Report.{ended, noEnd}
-use Rattle.model.specs.Accepted.{Accepted, CanHave, Regular}
 use Rattle.model.specs.Demand3.{Ends, EndsRegular, Numbers}
 use Rattle.model.proofs.Demand3Proof.{fresh-can}
 use Rattle.model.proofs.SafeStep.{never-stuck}
 use Rattle.model.proofs.Kept.{fresh-regular, stays-regular}
-use Rattle.machine.specs.View.{placesOf}
-use Rattle.runs.specs.Record.{recordFits, recordCheck}
+use Rattle.runs.specs.Record.{recordFits}
+use Rattle.runs.specs.RecordPromises.{CanBe}
 use Rattle.runs.specs.Checks.{runChecks}
-use Rattle.runs.specs.Answers.{saidBy, ranSaid, freshSaid, continuedSaid}
-use Rattle.runs.specs.Promises.{EndsWell, SaysEnd, FreshEnds, ContinuedEnds}
-use Rattle.runs.proofs.RecordLaws.{fits-can, fits-regular, can-fits}
-use Rattle.runs.proofs.LendLaws.{Parts, parts}
+use Rattle.runs.specs.Answers.{ranSaid, freshSaid, continuedSaid}
+use Rattle.runs.specs.Answers.Said.{refusal}
+use Rattle.runs.specs.Promises.{SaysEnd, FreshEnds, ContinuedEnds}
+use Rattle.runs.proofs.RecordLaws.{fits-can, can-fits}
+use Rattle.runs.proofs.LendLaws.{passes-sized, refuses-sized}
 
-module _ (m : MachineKind) (c1 c2 : ℕ) (t l : List ℕ) (limit : ℕ) (small : c2 ≤ most) (nl : Numbers l) where
-  abbrev running : State → Report
-  running s = run (placesOf m c1 c2) (tableOf t) limit 0 s l
+module _ (m : MachineKind) (ps : List ℕ) (ok : acceptedPlaces ps ≡ true) (t : List ℕ) (pass : tableCheck m t ≡ Passes) (l : List ℕ) (nl : Numbers l)
+    (limit : ℕ) where
+  well : (report : Report) → Ends ps m (tableOf t) l report → EndsRegular ps m (tableOf t) report → SaysEnd m ps (tableOf t) l (ranSaid l report)
+  well (ended e n s left) h r = record {
+    end = h .0;
+    fits = can-fits m ps ok (tableOf t) s (record { can = h .1; regular = r });
+    leaves = h .2;
+    counted = h .2 .used;
+  }
+  well noEnd h r = h
 
-  well : (report : Report) → (m ≡ reduced → acceptedPair c1 c2 ≡ true) → Ends (placesOf m c1 c2) m (tableOf t) l report → EndsRegular (placesOf m c1 c2) m (tableOf t) report
-      → EndsWell m c1 c2 (tableOf t) report
-  well (ended e n s left) ok h r = (h .0, can-fits m c1 c2 (tableOf t) s ok small (h .1) r)
-  well noEnd ok h r = h
+  -- a run from a record that the table can have
+  runs-well : (s : State) → CanBe m ps (tableOf t) s → SaysEnd m ps (tableOf t) l (ranSaid l (run ps (tableOf t) limit 0 s l))
+  runs-well s B =
+      let A = accepted m t (passing m t pass) in
+      well (run ps (tableOf t) limit 0 s l) (never-stuck ps m (tableOf t) A s (B .can) limit l)
+          (stays-regular ps m (tableOf t) A s (B .can) (B .regular) limit l nl)
 
-  runs-well : (size : ℕ) (s : State) → runChecks m c1 c2 t size ≡ Passes → CanHave (placesOf m c1 c2) m (tableOf t) s → Regular (placesOf m c1 c2) m (tableOf t) s
-      → EndsWell m c1 c2 (tableOf t) (running s)
-  runs-well size s e C R =
-      let P = parts m c1 c2 t size e in
-      let A = accepted m t (passing m t (P .table)) in
-      well (running s) (P .pair) (never-stuck (placesOf m c1 c2) m (tableOf t) A s C limit l) (stays-regular (placesOf m c1 c2) m (tableOf t) A s C R limit l nl)
+  fresh-is : (cells : List ℕ) {v : Verdict} → runChecks m ps t (length cells) ≡ v → v ≡ Passes
+      → freshSaid m ps t cells l limit ≡ ranSaid l (run ps (tableOf t) limit 0 (fresh ps m (tableOf t)) l)
+  unfolding freshSaid
+  fresh-is cells e p = rw (e, p)
 
-  by-verdict : (v : Verdict) (cells : List ℕ) (report : Report) → (v ≡ Passes → EndsWell m c1 c2 (tableOf t) report) → SaysEnd m c1 c2 (tableOf t) (saidBy v cells (ranSaid l report))
-  by-verdict Passes cells report h = h refl
-  by-verdict (Refused number place) cells report h = tt
+  fresh-not : (cells : List ℕ) → runChecks m ps t (length cells) ≡ Refused 14 0 → freshSaid m ps t cells l limit ≡ refusal 14 0 cells
+  unfolding freshSaid
+  fresh-not cells e = rw e
+
+  module _ (s : State) where
+    continued-is : runChecks m ps t (length (s .cells)) ≡ Passes → recordFits m ps (tableOf t) s ≡ true
+        → continuedSaid m ps t s l limit ≡ ranSaid l (run ps (tableOf t) limit 0 s l)
+    unfolding continuedSaid
+    continued-is e f = rw (e, f)
+
+    continued-size : runChecks m ps t (length (s .cells)) ≡ Refused 14 0 → continuedSaid m ps t s l limit ≡ refusal 14 0 (s .cells)
+    unfolding continuedSaid
+    continued-size e = rw e
+
+    continued-record : runChecks m ps t (length (s .cells)) ≡ Passes → recordFits m ps (tableOf t) s ≡ false
+        → continuedSaid m ps t s l limit ≡ refusal 15 0 (s .cells)
+    unfolding continuedSaid
+    continued-record e f = rw (e, f)
+
+    -- 15 refuses what the table cannot have
+    refused : (CanBe m ps (tableOf t) s → ⊥) → recordFits m ps (tableOf t) s ≡ false
+    refused h = go (recordFits m ps (tableOf t) s) refl
+      where
+        go : (b : Bool) → recordFits m ps (tableOf t) s ≡ b → recordFits m ps (tableOf t) s ≡ false
+        go true e = absurd (h (fits-can m ps (tableOf t) s e))
+        go false e = e
 
 pub fresh-ends : FreshEnds
-unfolding freshSaid
-fresh-ends m c1 c2 t cells l limit small nl =
-    let ps = placesOf m c1 c2 in
-    let s = fresh ps m (tableOf t) in
-    by-verdict m c1 c2 t l limit small nl (runChecks m c1 c2 t (length cells)) cells (run ps (tableOf t) limit 0 s l)
-    (λ e. runs-well m c1 c2 t l limit small nl (length cells) s e (fresh-can ps m (tableOf t)) (fresh-regular ps m (tableOf t)))
-
--- 15 passes
-fits-of : (m : MachineKind) (c1 c2 : ℕ) (t : Table) (s : State) → recordCheck m c1 c2 t s ≡ Passes → recordFits m c1 c2 t s ≡ true
-fits-of m c1 c2 t s e = go (recordFits m c1 c2 t s) refl e
-  where
-    go : (b : Bool) → recordFits m c1 c2 t s ≡ b → (if b then Passes else Refused 15 0) ≡ Passes → recordFits m c1 c2 t s ≡ true
-    go true u h = u
-    go false u h = absurd (let z : _≡_ {A = ℕ} 0 1 = cc in omega numbers)
+fresh-ends m ps ok t pass cells l nl limit = record {
+  otherSize = λ h. fresh-not m ps ok t pass l nl limit cells (refuses-sized m ps t (length cells) pass ok h);
+  cannot = λ e h. absurd (h tt);
+  ends = λ e h.
+      subst (SaysEnd m ps (tableOf t) l) (sym (fresh-is m ps ok t pass l nl limit cells (passes-sized m ps t (length cells) pass ok e) refl))
+      (runs-well m ps ok t pass l nl limit (fresh ps m (tableOf t)) (record { can = fresh-can ps m (tableOf t); regular = fresh-regular ps m (tableOf t) }));
+}
 
 pub continued-ends : ContinuedEnds
-unfolding continuedSaid
-continued-ends m c1 c2 t s l limit small nl =
-    let v = runChecks m c1 c2 t (length (s .cells)) in
-    by-verdict m c1 c2 t l limit small nl (andThen v (recordCheck m c1 c2 (tableOf t) s)) (s .cells) (run (placesOf m c1 c2) (tableOf t) limit 0 s l)
-    (λ e.
-    let b = both-pass v (recordCheck m c1 c2 (tableOf t) s) e in
-    let P = parts m c1 c2 t (length (s .cells)) (b .0) in
-    let f = fits-of m c1 c2 (tableOf t) s (b .1) in
-    runs-well m c1 c2 t l limit small nl (length (s .cells)) s (b .0) (fits-can m c1 c2 (tableOf t) s (P .pair) small f) (fits-regular m c1 c2 (tableOf t) s (P .pair) small f))
+continued-ends m ps ok t pass s l nl limit = record {
+  otherSize = λ h. continued-size m ps ok t pass l nl limit s (refuses-sized m ps t (length (s .cells)) pass ok h);
+  cannot = λ e h. continued-record m ps ok t pass l nl limit s (passes-sized m ps t (length (s .cells)) pass ok e) (refused m ps ok t pass l nl limit s h);
+  ends = λ e B.
+      subst (SaysEnd m ps (tableOf t) l)
+      (sym (continued-is m ps ok t pass l nl limit s (passes-sized m ps t (length (s .cells)) pass ok e) (can-fits m ps ok (tableOf t) s B)))
+      (runs-well m ps ok t pass l nl limit s B);
+}

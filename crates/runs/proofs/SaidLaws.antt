@@ -6,11 +6,13 @@ use native.Mathlib.Omega.{arith as numbers}
 use mathlib.Core.Bool.{Bool, true, false}
 use mathlib.Core.List.{List}
 use lib.ListN.{length, length-drop}
+use Rattle.runs.specs.Ends.{reportOf}
 use Rattle.table.specs.declared.Verdict.{Verdict}
 use Rattle.table.specs.declared.Verdict.the-variants.{Passes, Refused}
 use Rattle.table.specs.Checks.{machineOf}
 use Rattle.model.specs.Table.{tableOf}
-use Rattle.model.specs.State.{fresh}
+use Rattle.model.specs.Class.{pair}
+use Rattle.model.specs.State.{fresh, placesIn}
 use Rattle.model.specs.Step.{Report, run}
 use Rattle.model.specs.Demand3.{choicesUsed}
 use Rattle.machine.specs.declared.Machine.{Machine}
@@ -19,7 +21,7 @@ use Rattle.machine.specs.View.{places, kindOf, tableFor, stateOf}
 use Rattle.runs.specs.declared.Ran.{Ran}
 use Rattle.runs.specs.declared.Answered.{Answered}
 use Rattle.runs.specs.Record.{recordFits}
-use Rattle.runs.specs.Steps.{reportOf, Reports}
+use Rattle.runs.specs.CodeSteps.{Reports}
 use Rattle.runs.specs.Checks.{frameOf, runChecks}
 use Rattle.runs.specs.Answers.{saidOf, ranSaid, freshSaid, continuedSaid}
 use Rattle.runs.specs.Answers.Said.{reports}
@@ -33,17 +35,21 @@ reported : (t : List ℕ) (f : Frame) (l : List ℕ) (r : Ran) (cells : List ℕ
 reported t f l r cells report R =
     ap (reports (reportOf t f l r cells)) (used-is t f l r cells (R .within)) ∙ ap (ranSaid l) (R .report)
 
-module _ (t : List ℕ) (classes : Bool) (c1 c2 : ℕ) (l cells : List ℕ) (limit : ℕ) (v : Verdict) (q : v ≡ runChecks (machineOf classes) c1 c2 t (length cells)) where
+module _ (t : List ℕ) (classes : Bool) (c1 c2 : ℕ) (l cells : List ℕ) (limit : ℕ) (v : Verdict) 
+    (q : v ≡ runChecks (machineOf classes) (placesIn (machineOf classes) (pair c1 c2)) t (length cells)) where
   abbrev fr : Frame
   fr = frameOf t classes c1 c2
 
+  abbrev ps : List ℕ
+  ps = placesIn (machineOf classes) (pair c1 c2)
+
   pub fresh-refused : (a : Answered) {number place : ℕ} → v ≡ Refused number place → a .verdict ≡ v
-      → saidOf t fr l a cells ≡ freshSaid (machineOf classes) c1 c2 t cells l limit
+      → saidOf t fr l a cells ≡ freshSaid (machineOf classes) ps t cells l limit
   unfolding freshSaid
   fresh-refused a e w = rw (w, ← q, e)
 
   pub continued-refused : (a : Answered) (m : Machine) {number place : ℕ} → v ≡ Refused number place → a .verdict ≡ v
-      → saidOf t fr l a cells ≡ continuedSaid (machineOf classes) c1 c2 t (stateOf t fr m cells) l limit
+      → saidOf t fr l a cells ≡ continuedSaid (machineOf classes) ps t (stateOf t fr m cells) l limit
   unfolding continuedSaid
   continued-refused a m e w = rw (w, ← q, e)
 
@@ -52,28 +58,28 @@ module _ (t : List ℕ) (classes : Bool) (c1 c2 : ℕ) (l cells : List ℕ) (lim
     passes = rw (u, w, i)
 
     pub fresh-ran : Reports t f l r cells′ (run (places f) (tableOf t) limit 0 (fresh (places f) (kindOf f) (tableOf t)) l)
-        → saidOf t fr l a cells′ ≡ freshSaid (machineOf classes) c1 c2 t cells l limit
+        → saidOf t fr l a cells′ ≡ freshSaid (machineOf classes) ps t cells l limit
     unfolding freshSaid places
     fresh-ran R = passes ∙ reported t f l r cells′ _ R ∙ rw (i, ← q, p)
 
-    pub continued-ran : (m : Machine) → recordFits (kindOf f) (f .c1) (f .c2) (tableFor t f) (stateOf t f m cells) ≡ true
+    pub continued-ran : (m : Machine) → recordFits (kindOf f) (places f) (tableFor t f) (stateOf t f m cells) ≡ true
         → Reports t f l r cells′ (run (places f) (tableFor t f) limit 0 (stateOf t f m cells) l)
-        → saidOf t fr l a cells′ ≡ continuedSaid (machineOf classes) c1 c2 t (stateOf t fr m cells) l limit
+        → saidOf t fr l a cells′ ≡ continuedSaid (machineOf classes) ps t (stateOf t fr m cells) l limit
     unfolding continuedSaid places tableOf
     continued-ran m fits R = passes ∙ reported t f l r cells′ _ R ∙ subst goal (sym i) same fits
       where
         goal : Frame → Type 0
         goal g =
-            recordFits (kindOf g) (g .c1) (g .c2) (tableFor t g) (stateOf t g m cells) ≡ true
-            → ranSaid l (run (places g) (tableFor t g) limit 0 (stateOf t g m cells) l) ≡ continuedSaid (machineOf classes) c1 c2 t (stateOf t fr m cells) l limit
+            recordFits (kindOf g) (places g) (tableFor t g) (stateOf t g m cells) ≡ true
+            → ranSaid l (run (places g) (tableFor t g) limit 0 (stateOf t g m cells) l) ≡ continuedSaid (machineOf classes) ps t (stateOf t fr m cells) l limit
 
         same : goal fr
         same fits = rw (← q, p, fits)
 
-  pub continued-broken : v ≡ Passes → (f : Frame) → f ≡ fr → (m : Machine) → recordFits (kindOf f) (f .c1) (f .c2) (tableFor t f) (stateOf t f m cells) ≡ false
-      → (a : Answered) → a .verdict ≡ Refused 15 0 → saidOf t fr l a cells ≡ continuedSaid (machineOf classes) c1 c2 t (stateOf t fr m cells) l limit
-  unfolding continuedSaid tableOf
+  pub continued-broken : v ≡ Passes → (f : Frame) → f ≡ fr → (m : Machine) → recordFits (kindOf f) (places f) (tableFor t f) (stateOf t f m cells) ≡ false
+      → (a : Answered) → a .verdict ≡ Refused 15 0 → saidOf t fr l a cells ≡ continuedSaid (machineOf classes) ps t (stateOf t fr m cells) l limit
+  unfolding continuedSaid places tableOf
   continued-broken p f i m broken a w =
-      let broken′ : recordFits (machineOf classes) c1 c2 (tableFor t fr) (stateOf t fr m cells) ≡ false
-      = subst (λ (g : Frame). recordFits (kindOf g) (g .c1) (g .c2) (tableFor t g) (stateOf t g m cells) ≡ false) i broken in
+      let broken′ : recordFits (machineOf classes) ps (tableFor t fr) (stateOf t fr m cells) ≡ false
+      = subst (λ (g : Frame). recordFits (kindOf g) (places g) (tableFor t g) (stateOf t g m cells) ≡ false) i broken in
       rw (w, ← q, p, broken′)

@@ -2,6 +2,7 @@
 use Prim.Native.Nat.{ℕ}
 use mathlib.Core.List.{List}
 use lib.ListN.{length}
+use Rattle.runs.specs.Ends.{reportOf}
 use Rattle.table.specs.declared.Verdict.{Verdict}
 use Rattle.table.specs.declared.Verdict.the-variants.{Passes, Refused}
 use Rattle.table.specs.Checks.{andThen}
@@ -10,10 +11,8 @@ use Rattle.model.specs.State.{MachineKind, State, fresh}
 use Rattle.model.specs.Step.{Report, run}
 use Rattle.model.specs.Demand3.{choicesUsed}
 use Rattle.machine.specs.declared.frame.Frame.{Frame}
-use Rattle.machine.specs.View.{placesOf}
 use Rattle.runs.specs.declared.Answered.{Answered}
 use Rattle.runs.specs.Record.{recordCheck}
-use Rattle.runs.specs.Steps.{reportOf}
 use Rattle.runs.specs.Checks.{runChecks}
 
 -- a refusal, with its number and place and the cells at exit; or a run's report, which has end, steps, the record and the cells at exit,
@@ -35,14 +34,14 @@ saidOf t f l a cells = saidBy (a .verdict) cells (reports (reportOf t f l (a .ra
 abbrev pub ranSaid : List ℕ → Report → Said
 ranSaid l report = reports report (choicesUsed l report)
 
--- "A fresh run has a fresh record and its own zeroed cells" (R21); a refusal leaves the cells as they were lent
-unfoldable pub freshSaid : MachineKind → ℕ → ℕ → List ℕ → List ℕ → List ℕ → ℕ → Said
-freshSaid m c1 c2 t cells l limit =
-    let ps = placesOf m c1 c2 in
-    saidBy (runChecks m c1 c2 t (length cells)) cells (ranSaid l (run ps (tableOf t) limit 0 (fresh ps m (tableOf t)) l))
+-- "A fresh run has a fresh record and its own zeroed cells" (R21), of the machine m, which tracks the places ps; a refusal leaves the
+-- cells as they were lent
+unfoldable pub freshSaid : MachineKind → List ℕ → List ℕ → List ℕ → List ℕ → ℕ → Said
+freshSaid m ps t cells l limit = saidBy (runChecks m ps t (length cells)) cells (ranSaid l (run ps (tableOf t) limit 0 (fresh ps m (tableOf t)) l))
 
--- a run from the state s, which has the record and the lent cells: "any record that 15 doesn't refuse and any numbers in its cells"; 15 comes last
-unfoldable pub continuedSaid : MachineKind → ℕ → ℕ → List ℕ → State → List ℕ → ℕ → Said
-continuedSaid m c1 c2 t s l limit =
-    let v = andThen (runChecks m c1 c2 t (length (s .cells))) (recordCheck m c1 c2 (tableOf t) s) in
-    saidBy v (s .cells) (ranSaid l (run (placesOf m c1 c2) (tableOf t) limit 0 s l))
+-- a run from the state s, which has the record and the lent cells: "any record that 15 doesn't refuse and any numbers in its cells"; 15
+-- comes last
+unfoldable pub continuedSaid : MachineKind → List ℕ → List ℕ → State → List ℕ → ℕ → Said
+continuedSaid m ps t s l limit =
+    let v = andThen (runChecks m ps t (length (s .cells))) (recordCheck m ps (tableOf t) s) in
+    saidBy v (s .cells) (ranSaid l (run ps (tableOf t) limit 0 s l))

@@ -1,35 +1,53 @@
 -- What is proved of the runs: proofs/RunPromises.
 use mathlib.Core.Path.{_≡_}
-use Prim.Native.Nat.{ℕ, _≤_}
+use mathlib.Core.Logic.{_≢_}
+use Prim.Native.Nat.{ℕ}
 use mathlib.Core.Bool.{true}
 use mathlib.Core.List.{List}
+use lib.ListN.{length}
+use Rattle.table.specs.declared.Verdict.the-variants.{Passes}
+use Rattle.table.specs.Checks.{tableCheck}
+use Rattle.model.specs.Class.{acceptedPlaces}
 use Rattle.model.specs.Table.{Table, tableOf}
-use Rattle.model.specs.State.{MachineKind, most, State}
-use Rattle.model.specs.Step.{Report}
+use Rattle.model.specs.State.{MachineKind, State, cellCount}
+use Rattle.model.specs.Step.{End}
 use Rattle.model.specs.Step.Report.{ended, noEnd}
-use Rattle.model.specs.Demand3.{MachineEnd, Numbers}
+use Rattle.model.specs.Demand3.{Leaves, MachineEnd, Numbers}
 use Rattle.runs.specs.Record.{recordFits}
+use Rattle.runs.specs.RecordPromises.{CanBe}
 use Rattle.runs.specs.Answers.{Said, freshSaid, continuedSaid}
 use Rattle.runs.specs.Answers.Said.{refusal, reports}
 
--- an end of its machine, not the outcome that is no end, with a record that 15 does not refuse, so that it may be continued
-abbrev pub EndsWell : MachineKind → ℕ → ℕ → Table → Report → Type 0
-EndsWell m c1 c2 t (ended e n s left) = MachineEnd m e × (recordFits m c1 c2 t s ≡ true)
-EndsWell m c1 c2 t noEnd = ⊥
+-- an end of its machine, under the choices l, with a record that 15 does not refuse, so that it may be continued; the choices left are the
+-- end of l, and as many are counted as stand before them
+pub record EndsWell (m : MachineKind) (ps : List ℕ) (t : Table) (l : List ℕ) (e : End) (s : State) (left : List ℕ) (used : ℕ) : Type 0 where
+  pub end : MachineEnd m e
+  pub fits : recordFits m ps t s ≡ true
+  pub leaves : Leaves m l left
+  pub counted : used ≡ length (leaves .taken)
 
-abbrev pub SaysEnd : MachineKind → ℕ → ℕ → Table → Said → Type 0
-SaysEnd m c1 c2 t (refusal number place cells) = Unit {0}
-SaysEnd m c1 c2 t (reports report used) = EndsWell m c1 c2 t report
+-- a run says such an end: no refusal, and never the outcome that is no end
+abbrev pub SaysEnd : MachineKind → List ℕ → Table → List ℕ → Said → Type 0
+SaysEnd m ps t l (refusal number place cells) = ⊥
+SaysEnd m ps t l (reports (ended e n s left) used) = EndsWell m ps t l e s left used
+SaysEnd m ps t l (reports noEnd used) = ⊥
 
--- Demand 3: "no run of P or Q, fresh or continued, under any limit and any choices, meets an operand of the wrong kind or a cell outside its memory":
--- whatever `run_plain` and `run_reduced` say, of places and choices of 32 bits
+-- What a run says where its table and its places pass: 14 for cells of another size, 15 for a record that the table cannot have (Can), and an
+-- end in every other case
+pub record SaysRight (m : MachineKind) (ps : List ℕ) (t : Table) (l cells : List ℕ) (Can : Type 0) (said : Said) : Type 0 where
+  pub otherSize : length cells ≢ cellCount m → said ≡ refusal 14 0 cells
+  pub cannot : length cells ≡ cellCount m → (Can → ⊥) → said ≡ refusal 15 0 cells
+  pub ends : length cells ≡ cellCount m → Can → SaysEnd m ps t l said
+
+-- Demand 3: "no run of P or Q, fresh or continued from a record that is not refused, meets an operand of the wrong kind or a cell outside its
+-- memory": what `run_plain` and `run_reduced` say, of choices of 32 bits
 abbrev pub FreshEnds : Type 0
 FreshEnds =
-    (m : MachineKind) (c1 c2 : ℕ) (t cells l : List ℕ) (limit : ℕ) → c2 ≤ most → Numbers l
-    → SaysEnd m c1 c2 (tableOf t) (freshSaid m c1 c2 t cells l limit)
+    (m : MachineKind) (ps : List ℕ) → acceptedPlaces ps ≡ true → (t : List ℕ) → tableCheck m t ≡ Passes → (cells l : List ℕ) → Numbers l → (limit : ℕ)
+    → SaysRight m ps (tableOf t) l cells (Unit {0}) (freshSaid m ps t cells l limit)
 
 -- ... and `continue_plain` and `continue_reduced`
 abbrev pub ContinuedEnds : Type 0
 ContinuedEnds =
-    (m : MachineKind) (c1 c2 : ℕ) (t : List ℕ) (s : State) (l : List ℕ) (limit : ℕ) → c2 ≤ most → Numbers l
-    → SaysEnd m c1 c2 (tableOf t) (continuedSaid m c1 c2 t s l limit)
+    (m : MachineKind) (ps : List ℕ) → acceptedPlaces ps ≡ true → (t : List ℕ) → tableCheck m t ≡ Passes → (s : State) (l : List ℕ) → Numbers l → (limit : ℕ)
+    → SaysRight m ps (tableOf t) l (s .cells) (CanBe m ps (tableOf t) s) (continuedSaid m ps t s l limit)

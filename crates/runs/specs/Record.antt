@@ -1,5 +1,5 @@
 -- Check 15: a continued record that the table can't have, condition by condition in document 01's order, of the state that the record
--- holds (R24 to R27). A slot that is not in use is no part of the state.
+-- holds (R24 to R27). A slot that is not in use is no part of the state. ps are the places that the machine tracks; the plain one has none.
 use Prim.Native.Nat.{ℕ, _+_}
 use mathlib.Core.Bool.{Bool, true, false, not, _&&_}
 use mathlib.Core.List.{List, [], _∷_, map}
@@ -7,15 +7,15 @@ use lib.ListN.{length, getD}
 use lib.Dec.{leb, eqb}
 use Rattle.lists.specs.If.{if_then_else_}
 use Rattle.lists.specs.Tab.{all}
+use Rattle.model.specs.Class.{classHeld}
 use Rattle.model.specs.Table.{Table, Ty, typeAt, openAt}
 use Rattle.model.specs.Table.Ty.{bool, uint, pointer}
-use Rattle.model.specs.State.{MachineKind, most, mostArrays, Value, Array, Loop, State, classed}
+use Rattle.model.specs.State.{MachineKind, mostArrays, Value, Array, Loop, State, classed}
 use Rattle.model.specs.State.MachineKind.{plain, reduced}
 use Rattle.model.specs.State.Value.{Truth, Uint, Class, Pointer}
-use Rattle.model.specs.Eval.{sizeOf, used}
+use Rattle.model.specs.Eval.{sizeOf, cellsLaid}
 use Rattle.table.specs.declared.Verdict.{Verdict}
 use Rattle.table.specs.declared.Verdict.the-variants.{Passes, Refused}
-use Rattle.machine.specs.View.{placesOf}
 
 abbrev pub sameNumbers : List ℕ → List ℕ → Bool
 sameNumbers [] [] = true
@@ -25,26 +25,23 @@ sameNumbers (x ∷ xs) (y ∷ ys) = eqb x y && sameNumbers xs ys
 
 -- "row above the row count"
 abbrev pub rowWithin : Table → State → Bool
-rowWithin t s = leb (s .row) (t .rows)
+rowWithin t s = leb (s .here .row) (t .rows)
 
 -- "open loops not those around the row, outermost first" (R24; the innermost stands first in the state)
 abbrev pub loopsAround : Table → State → Bool
-loopsAround t s = sameNumbers (map (λ (l : Loop). l .row) (s .loops)) (openAt t (s .row))
+loopsAround t s = sameNumbers (map (λ (l : Loop). l .row) (s .here .loops)) (openAt t (s .here .row))
 
 -- "a start above its end"
 abbrev pub startsWithin : List Loop → Bool
 startsWithin [] = true
 startsWithin (l ∷ ls) = leb (l .start) (l .end) && startsWithin ls
 
--- "a class above 4 or holding no number" (R26)
-abbrev pub classHeld : ℕ → ℕ → ℕ → Bool
-classHeld c1 c2 k = leb k 4 && (not (eqb k 0 && eqb c1 0) && not (eqb k 4 && eqb c2 most))
-
-abbrev pub holdsClass : ℕ → ℕ → Value → Bool
-holdsClass c1 c2 (Truth b) = false
-holdsClass c1 c2 (Uint n) = false
-holdsClass c1 c2 (Class k) = classHeld c1 c2 k
-holdsClass c1 c2 (Pointer r p) = false
+-- "a class above 4 or holding no number" (R26): one that no number of 32 bits has
+abbrev pub holdsClass : List ℕ → Value → Bool
+holdsClass ps (Truth b) = false
+holdsClass ps (Uint n) = false
+holdsClass ps (Class k) = classHeld ps k
+holdsClass ps (Pointer r p) = false
 
 -- "a variable not of its type", "a pointer to no such array" (a place may be any, R18, R25); `count` is how many arrays the record has
 abbrev pub ofTheType : ℕ → Ty → Value → Bool
@@ -62,15 +59,15 @@ ofTheType count pointer (Class k) = false
 ofTheType count pointer (Pointer r p) = leb r count
 
 -- variable i breaks none of these
-abbrev pub variableFits : MachineKind → ℕ → ℕ → Table → State → ℕ → Bool
-variableFits m c1 c2 t s i =
+abbrev pub variableFits : MachineKind → List ℕ → Table → State → ℕ → Bool
+variableFits m ps t s i =
     if classed m t i
-    then holdsClass c1 c2 (getD (s .vars) i (Uint 0))
+    then holdsClass ps (getD (s .vars) i (Uint 0))
     else ofTheType (length (s .arrays)) (typeAt t i) (getD (s .vars) i (Uint 0))
 
 -- (that there are as many as declarations is so of every record)
-abbrev pub variablesFit : MachineKind → ℕ → ℕ → Table → State → Bool
-variablesFit m c1 c2 t s = eqb (length (s .vars)) (t .decls) && all (t .decls) (variableFits m c1 c2 t s)
+abbrev pub variablesFit : MachineKind → List ℕ → Table → State → Bool
+variablesFit m ps t s = eqb (length (s .vars)) (t .decls) && all (t .decls) (variableFits m ps t s)
 
 -- "arrays not in sequence": each starts where the one before ends (R27). "cells that don't suit length and kind" cannot be: an array's
 -- cells are those that its length and kind give it
@@ -85,17 +82,17 @@ kindsFit plain (r ∷ rs) = not (r .reduced) && kindsFit plain rs
 kindsFit reduced (r ∷ rs) = kindsFit reduced rs
 
 -- "more than 16 arrays, arrays not in sequence, past the cells" (4,096 or 4,112 of them, by 14; R27)
-abbrev pub arraysFit : MachineKind → ℕ → ℕ → State → Bool
-arraysFit m c1 c2 s =
+abbrev pub arraysFit : MachineKind → List ℕ → State → Bool
+arraysFit m ps s =
     leb (length (s .arrays)) mostArrays
-    && (inSequence (placesOf m c1 c2) 0 (s .arrays)
-    && (leb (used (placesOf m c1 c2) (s .arrays)) (length (s .cells)) && kindsFit m (s .arrays)))
+    && (inSequence ps 0 (s .arrays)
+    && (leb (cellsLaid ps (s .arrays)) (length (s .cells)) && kindsFit m (s .arrays)))
 
 -- a state that 15 does not refuse
-unfoldable pub recordFits : MachineKind → ℕ → ℕ → Table → State → Bool
-recordFits m c1 c2 t s =
-    rowWithin t s && (loopsAround t s && (startsWithin (s .loops) && (variablesFit m c1 c2 t s && arraysFit m c1 c2 s)))
+unfoldable pub recordFits : MachineKind → List ℕ → Table → State → Bool
+recordFits m ps t s =
+    rowWithin t s && (loopsAround t s && (startsWithin (s .here .loops) && (variablesFit m ps t s && arraysFit m ps s)))
 
 -- 15: "a continued record that the table can't have", at place 0
-abbrev pub recordCheck : MachineKind → ℕ → ℕ → Table → State → Verdict
-recordCheck m c1 c2 t s = if recordFits m c1 c2 t s then Passes else Refused 15 0
+abbrev pub recordCheck : MachineKind → List ℕ → Table → State → Verdict
+recordCheck m ps t s = if recordFits m ps t s then Passes else Refused 15 0

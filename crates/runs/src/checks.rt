@@ -1,4 +1,4 @@
-// What every run checks of what it is lent: the table, the pair, the size of the cells. And the frame of a table, and a refusal.
+// What every run checks of what it is lent: the table, the places, the size of the cells. And the frame of a table, and a refusal.
 use crate::Answered;
 use crate::End;
 use crate::Ran;
@@ -11,8 +11,9 @@ use table::sorts::counts_of;
 ghost use mathlib.Core.Path.{_≡_};
 ghost use lib.ListN.{length};
 ghost use Rattle.table.specs.Checks.{machineOf, sizeCheck};
-ghost use Rattle.model.specs.State.{cellCount};
-ghost use Rattle.runs.specs.Checks.{frameOf, pairFor, runChecks};
+ghost use Rattle.model.specs.Class.{pair};
+ghost use Rattle.model.specs.State.{cellCount, placesIn};
+ghost use Rattle.runs.specs.Checks.{frameOf, placesFor, runChecks};
 
 // The frame of a table, for the machine with these places.
 pub fn frame_of(t: &[u32], classes: bool, c1: u32, c2: u32) -> Frame
@@ -30,8 +31,8 @@ pub fn frame_of(t: &[u32], classes: bool, c1: u32, c2: u32) -> Frame
 }
 
 // 13, of the reduced machine.
-fn pair_for(classes: bool, c1: u32, c2: u32) -> Verdict
-    ensures { λ r. ⌜ r ≡ pairFor (machineOf classes) c1 c2 ⌝ }
+fn places_for(classes: bool, c1: u32, c2: u32) -> Verdict
+    ensures { λ r. ⌜ r ≡ placesFor (machineOf classes) (placesIn (machineOf classes) (pair c1 c2)) ⌝ }
 {
     if classes {
         return check_pair(c1, c2);
@@ -61,13 +62,13 @@ pub fn check_size(size: usize, stated: usize) -> Verdict
 
 // 4 to 12, 13 and 14, in that order.
 pub fn check_run(t: &[u32], cells: &[u32], classes: bool, c1: u32, c2: u32) -> Verdict
-    ensures { λ r. ⌜ r ≡ runChecks (machineOf classes) c1 c2 (now (t .entry)) (length (now (cells .entry))) ⌝ }
+    ensures { λ r. ⌜ r ≡ runChecks (machineOf classes) (placesIn (machineOf classes) (pair c1 c2)) (now (t .entry)) (length (now (cells .entry))) ⌝ }
 {
     let table = check_table(t, classes);
     let Verdict::Passes = table else {
         return table;
     };
-    let pair = pair_for(classes, c1, c2);
+    let pair = places_for(classes, c1, c2);
     let Verdict::Passes = pair else {
         return pair;
     };

@@ -12,11 +12,12 @@ use table::Verdict;
 ghost use mathlib.Core.Path.{_≡_};
 ghost use Rattle.table.specs.Checks.{machineOf};
 ghost use Rattle.model.specs.Table.{tableOf};
-ghost use Rattle.model.specs.State.{fresh};
+ghost use Rattle.model.specs.Class.{pair};
+ghost use Rattle.model.specs.State.{fresh, placesIn};
 ghost use Rattle.model.specs.Step.{run};
 ghost use Rattle.machine.specs.View.{places, kindOf};
-ghost use Rattle.runs.specs.Steps.{Reports};
-ghost use Rattle.runs.specs.Checks.{frameOf, Lends};
+ghost use Rattle.runs.specs.CodeSteps.{Reports, Lends};
+ghost use Rattle.runs.specs.Checks.{frameOf};
 ghost use Rattle.runs.specs.Answers.{saidOf, freshSaid};
 
 // A fresh run of a table that passes, in cells of the stated size.
@@ -39,7 +40,7 @@ pub fn fresh_run(
     c2: u32,
     limit: u32,
 ) -> Answered
-    ensures { λ r. ⌜ saidOf (now (t .entry)) (frameOf (now (t .entry)) classes c1 c2) (now (list .entry)) r (now (cells .exit)) ≡ freshSaid (machineOf classes) c1 c2 (now (t .entry)) (now (cells .entry)) (now (list .entry)) limit ⌝ }
+    ensures { λ r. ⌜ saidOf (now (t .entry)) (frameOf (now (t .entry)) classes c1 c2) (now (list .entry)) r (now (cells .exit)) ≡ freshSaid (machineOf classes) (placesIn (machineOf classes) (pair c1 c2)) (now (t .entry)) (now (cells .entry)) (now (list .entry)) limit ⌝ }
 {
     let v = check_run(t, cells, classes, c1, c2);
     let Verdict::Passes = v else {

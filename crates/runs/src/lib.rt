@@ -13,6 +13,7 @@ use table::Verdict;
 ghost use mathlib.Core.Path.{_≡_};
 ghost use mathlib.Core.Bool.{true, false};
 ghost use mathlib.Core.List.{[]};
+ghost use Rattle.model.specs.Class.{pair};
 ghost use Rattle.model.specs.State.MachineKind.{plain, reduced};
 ghost use Rattle.machine.specs.View.{stateOf};
 ghost use Rattle.runs.specs.Checks.{frameOf};
@@ -46,14 +47,14 @@ pub struct Answered {
 
 // A fresh run of the plain machine on a table, in lent cells, with a limit of steps.
 pub fn run_plain(t: &[u32], cells: &mut [u32], limit: u32) -> Answered
-    ensures { λ r. ⌜ saidOf (now (t .entry)) (frameOf (now (t .entry)) false 0 0) [] r (now (cells .exit)) ≡ freshSaid plain 0 0 (now (t .entry)) (now (cells .entry)) [] limit ⌝ }
+    ensures { λ r. ⌜ saidOf (now (t .entry)) (frameOf (now (t .entry)) false 0 0) [] r (now (cells .exit)) ≡ freshSaid plain [] (now (t .entry)) (now (cells .entry)) [] limit ⌝ }
 {
     fresh_run(t, cells, &t[..0], false, 0, 0, limit)
 }
 
 // A run of the plain machine from a record on.
 pub fn continue_plain(m: Machine, t: &[u32], cells: &mut [u32], limit: u32) -> Answered
-    ensures { λ r. ⌜ saidOf (now (t .entry)) (frameOf (now (t .entry)) false 0 0) [] r (now (cells .exit)) ≡ continuedSaid plain 0 0 (now (t .entry)) (stateOf (now (t .entry)) (frameOf (now (t .entry)) false 0 0) m (now (cells .entry))) [] limit ⌝ }
+    ensures { λ r. ⌜ saidOf (now (t .entry)) (frameOf (now (t .entry)) false 0 0) [] r (now (cells .exit)) ≡ continuedSaid plain [] (now (t .entry)) (stateOf (now (t .entry)) (frameOf (now (t .entry)) false 0 0) m (now (cells .entry))) [] limit ⌝ }
 {
     continued_run(m, t, cells, &t[..0], false, 0, 0, limit)
 }
@@ -67,7 +68,7 @@ pub fn run_reduced(
     list: &[u32],
     limit: u32,
 ) -> Answered
-    ensures { λ r. ⌜ saidOf (now (t .entry)) (frameOf (now (t .entry)) true c1 c2) (now (list .entry)) r (now (cells .exit)) ≡ freshSaid reduced c1 c2 (now (t .entry)) (now (cells .entry)) (now (list .entry)) limit ⌝ }
+    ensures { λ r. ⌜ saidOf (now (t .entry)) (frameOf (now (t .entry)) true c1 c2) (now (list .entry)) r (now (cells .exit)) ≡ freshSaid reduced (pair c1 c2) (now (t .entry)) (now (cells .entry)) (now (list .entry)) limit ⌝ }
 {
     fresh_run(t, cells, list, true, c1, c2, limit)
 }
@@ -82,7 +83,7 @@ pub fn continue_reduced(
     list: &[u32],
     limit: u32,
 ) -> Answered
-    ensures { λ r. ⌜ saidOf (now (t .entry)) (frameOf (now (t .entry)) true c1 c2) (now (list .entry)) r (now (cells .exit)) ≡ continuedSaid reduced c1 c2 (now (t .entry)) (stateOf (now (t .entry)) (frameOf (now (t .entry)) true c1 c2) m (now (cells .entry))) (now (list .entry)) limit ⌝ }
+    ensures { λ r. ⌜ saidOf (now (t .entry)) (frameOf (now (t .entry)) true c1 c2) (now (list .entry)) r (now (cells .exit)) ≡ continuedSaid reduced (pair c1 c2) (now (t .entry)) (stateOf (now (t .entry)) (frameOf (now (t .entry)) true c1 c2) m (now (cells .entry))) (now (list .entry)) limit ⌝ }
 {
     continued_run(m, t, cells, list, true, c1, c2, limit)
 }

@@ -7,7 +7,7 @@ ghost use mathlib.Core.Path.{_≡_};
 ghost use Prim.Native.Nat.{_≤_, _<_, _^_};
 ghost use Rattle.machine.specs.View.{tableFor, loopsOf, stateOf};
 ghost use Rattle.runs.specs.Record.{loopsAround, startsWithin};
-ghost use Rattle.runs.specs.RecordCode.{Walks, metBy};
+ghost use Rattle.runs.specs.CodeRecord.{Walks, metBy};
 
 const OPENS: u32 = 1;
 

@@ -6,18 +6,37 @@ use machine::frame::Frame;
 use machine::news::size_for;
 use machine::variables::Sort;
 use machine::variables::sort_at;
+use model::class_of;
 ghost use mathlib.Core.Path.{_≡_};
 ghost use Prim.Native.Nat.{_≤_};
-ghost use Rattle.table.specs.Code.{Laid};
-ghost use Rattle.machine.specs.View.{kindOf, tableFor, stateOf};
-ghost use Rattle.runs.specs.Record.{classHeld, variablesFit, arraysFit, recordFits};
-ghost use Rattle.runs.specs.RecordCode.{fitsBySort, arrayFits};
+ghost use Rattle.model.specs.Class.{candidate, classHeld, pair};
+ghost use Rattle.table.specs.Code.{InSorts};
+ghost use Rattle.machine.specs.View.{kindOf, places, tableFor, stateOf};
+ghost use Rattle.runs.specs.Record.{variablesFit, arraysFit, recordFits};
+ghost use Rattle.runs.specs.CodeRecord.{fitsBySort, arrayFits};
 
-// A class is one of the pair's, and some number is in it.
-fn class_held(f: Frame, k: u32) -> bool
-    ensures { λ r. ⌜ r ≡ classHeld (f .c1) (f .c2) k ⌝ }
+// The one number that decides whether a class holds a number: 0, a place, or the number after a place.
+fn candidate_of(c1: u32, c2: u32, k: u32) -> u64
+    ensures { λ r. ⌜ r ≡ candidate 0 (pair c1 c2) k ⌝ }
 {
-    (k <= 4) & (!((k == 0) & (f.c1 == 0)) & !((k == 4) & (f.c2 == 4294967295)))
+    match k {
+        0 => 0,
+        1 => c1 as u64,
+        2 => c1 as u64 + 1,
+        3 => c2 as u64,
+        _ => c2 as u64 + 1,
+    }
+}
+
+// A class holds a number where its candidate is a number of 32 bits and is in it.
+fn class_held(f: Frame, k: u32) -> bool
+    ensures { λ r. ⌜ r ≡ classHeld (pair (f .c1) (f .c2)) k ⌝ }
+{
+    let n = candidate_of(f.c1, f.c2, k);
+    if 4294967295 < n {
+        return false;
+    }
+    class_of(f.c1, f.c2, n as u32) == k
 }
 
 // A number and a base suit a variable's sort, with so many arrays in the record.
@@ -35,7 +54,7 @@ fn variable_fits(f: Frame, sort: Sort, number: u32, base: u32, count: u32) -> bo
 // Every variable is of its type.
 fn variables_fit(t: &[u32], cells: &[u32], f: Frame, m: Machine) -> bool
     requires { ⌜ f .decls ≤ 32 ⌝ }
-    ensures { λ r. ⌜ r ≡ variablesFit (kindOf f) (f .c1) (f .c2) (tableFor (now (t .entry)) f) (stateOf (now (t .entry)) f m (now (cells .entry))) ⌝ }
+    ensures { λ r. ⌜ r ≡ variablesFit (kindOf f) (places f) (tableFor (now (t .entry)) f) (stateOf (now (t .entry)) f m (now (cells .entry))) ⌝ }
 {
     let mut i: usize = 0;
     let decls = f.decls;
@@ -59,7 +78,7 @@ fn array_fits(f: Frame, start: u32, from: usize, reduced: bool) -> bool
 
 // At most 16 arrays, in sequence, within the cells, and none reduced in a plain record.
 fn arrays_fit(t: &[u32], cells: &[u32], f: Frame, m: Machine) -> bool
-    ensures { λ r. ⌜ r ≡ arraysFit (kindOf f) (f .c1) (f .c2) (stateOf (now (t .entry)) f m (now (cells .entry))) ⌝ }
+    ensures { λ r. ⌜ r ≡ arraysFit (kindOf f) (places f) (stateOf (now (t .entry)) f m (now (cells .entry))) ⌝ }
 {
     if Machine::ARRAYS < m.count {
         return false;
@@ -81,8 +100,8 @@ fn arrays_fit(t: &[u32], cells: &[u32], f: Frame, m: Machine) -> bool
 
 // The table can have the record. For the runs, which see to what is required here.
 pub fn record_fits(t: &[u32], cells: &[u32], f: Frame, m: Machine) -> bool
-    requires { ⌜ Laid (tableFor (now t) f) ⌝ }
-    ensures { λ r. ⌜ r ≡ recordFits (kindOf f) (f .c1) (f .c2) (tableFor (now (t .entry)) f) (stateOf (now (t .entry)) f m (now (cells .entry))) ⌝ }
+    requires { ⌜ InSorts (tableFor (now t) f) ⌝ }
+    ensures { λ r. ⌜ r ≡ recordFits (kindOf f) (places f) (tableFor (now (t .entry)) f) (stateOf (now (t .entry)) f m (now (cells .entry))) ⌝ }
 {
     if f.rows < m.row as usize {
         return false;

@@ -7,9 +7,10 @@ use machine::rows::Outcome;
 ghost use mathlib.Core.Path.{_≡_};
 ghost use Prim.Native.Nat.{_<_, _≤_};
 ghost use lib.ListN.{drop, length};
+ghost use Rattle.runs.specs.Ends.{reportOf};
 ghost use Rattle.model.specs.Step.{run};
 ghost use Rattle.machine.specs.View.{places, tableFor, stateOf};
-ghost use Rattle.runs.specs.Steps.{Ready, reportOf, ran, stoppedOf, Reports};
+ghost use Rattle.runs.specs.CodeSteps.{Ready, ran, stoppedOf, Reports};
 
 // An end after so many steps, with the next choice at a place.
 fn ran_to(end: End, steps: u32, at: usize, machine: Machine) -> Ran

@@ -17,7 +17,7 @@ use Rattle.table.specs.declared.Verdict.the-variants.{Passes, Refused}
 use Rattle.table.specs.declared.Counts.{Counts}
 use Rattle.table.specs.Rules.{breaks8, breaks11}
 use Rattle.table.specs.Checks.{machineOf, breaks, firstRefusal, tableCheck}
-use Rattle.table.specs.Code.{countsOf, tableBy, firstOf, Laid, There}
+use Rattle.table.specs.Code.{countsOf, tableBy, firstOf, InSorts, There}
 use Rattle.table.proofs.Sizes.{all-lines, declaration-at, node-at, row-at, sizes}
 use Rattle.table.proofs.CodeLaws.{at-node, at-row}
 
@@ -68,7 +68,8 @@ eleven r w c = refl
 
 -- ---- what 4, 5 and 6 leave
 
-laid : (r : Bool) (w : List ℕ) → length w % 4 ≡ 0 → firstOf 5 r w (countsOf w) ≡ Nothing → firstOf 6 r w (countsOf w) ≡ Nothing → Laid (tableBy w (countsOf w))
+laid : (r : Bool) (w : List ℕ) → length w % 4 ≡ 0 → firstOf 5 r w (countsOf w) ≡ Nothing → firstOf 6 r w (countsOf w) ≡ Nothing
+    → InSorts (tableBy w (countsOf w))
 unfolding tableOf
 laid r w e n5 n6 =
     let few = sizes (machineOf r) w e n5 n6 in
@@ -84,23 +85,25 @@ laid r w e n5 n6 =
     }
 
 pub laid-of : (r : Bool) (w : List ℕ) (c : Counts) → length w % 4 ≡ 0 → c ≡ countsOf w → firstOf 5 r w c ≡ Nothing → firstOf 6 r w c ≡ Nothing
-    → Laid (tableBy w c)
+    → InSorts (tableBy w c)
 laid-of r w c e q =
-    subst (λ c. firstOf 5 r w c ≡ Nothing → firstOf 6 r w c ≡ Nothing → Laid (tableBy w c)) (sym q) (laid r w e)
+    subst (λ c. firstOf 5 r w c ≡ Nothing → firstOf 6 r w c ≡ Nothing → InSorts (tableBy w c)) (sym q) (laid r w e)
 
 -- ---- what 8 leaves
 
-pub there-of : (r : Bool) (w : List ℕ) (c : Counts) → Laid (tableBy w c) → firstOf 8 r w c ≡ Nothing → There (tableBy w c)
+pub there-of : (r : Bool) (w : List ℕ) (c : Counts) → InSorts (tableBy w c) → firstOf 8 r w c ≡ Nothing → There (tableBy w c)
 unfolding breaks breaks8
 there-of r w c la n8 = record {
   nodes = λ n l.
       let i = t .decls + n in
       let back : i - t .decls ≡ n = omega arith in
-      not-false (nodeThere t n) (ap (λ (m : ℕ). not (nodeThere t m)) (sym back) ∙ sym (at-node t la i node row (omega arith) (omega arith)) ∙ unbroken i (omega (arith, la .whole)));
+      not-false (nodeThere t n)
+          (ap (λ (m : ℕ). not (nodeThere t m)) (sym back) ∙ sym (at-node t la i node row (omega arith) (omega arith)) ∙ unbroken i (omega (arith, la .whole)));
   rows = λ n l.
       let i = t .decls + t .nodes + n in
       let back : i - (t .decls + t .nodes) ≡ n = omega arith in
-      not-false (rowThere t n) (ap (λ (m : ℕ). not (rowThere t m)) (sym back) ∙ sym (at-row t la i node row (omega arith) (omega arith)) ∙ unbroken i (omega (arith, la .whole)));
+      not-false (rowThere t n)
+          (ap (λ (m : ℕ). not (rowThere t m)) (sym back) ∙ sym (at-row t la i node row (omega arith) (omega arith)) ∙ unbroken i (omega (arith, la .whole)));
 }
   where
     t : Table

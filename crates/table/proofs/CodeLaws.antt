@@ -16,7 +16,7 @@ use Rattle.model.specs.Table.{Table, lineAt, isDeclaration, isNode, isRow, node
 use Rattle.model.specs.Table.Role.{unused, flag, number, aVariable, aNode}
 use Rattle.model.specs.Accepted.{there, allThere, nodeThere, rowThere}
 use Rattle.table.specs.Rules.{kindAt, ofNodeOrRow, rolesOf, valueSuits}
-use Rattle.table.specs.Code.{roleNumber, suitsBy, thereBy, Laid}
+use Rattle.table.specs.Code.{roleNumber, suitsBy, thereBy, InSorts}
 
 -- ---- roles as numbers
 
@@ -73,7 +73,7 @@ roles-row k e =
     let high : 32 ≤ k = leb-true 32 k e in
     rw (not-declaration k (omega arith), le-leb 16 k (omega arith), le-ltb k 32 high)
 
-module _ (t : Table) (laid : Laid t) (i : ℕ) (f g : ℕ → Bool) where
+module _ (t : Table) (laid : InSorts t) (i : ℕ) (f g : ℕ → Bool) where
   pub at-declaration : i < t .decls → ofNodeOrRow f g t i ≡ false
   at-declaration l = rw (laid .declaration i l)
 
@@ -94,7 +94,7 @@ module _ (t : Table) (laid : Laid t) (i : ℕ) (f g : ℕ → Bool) where
   ]
 
 -- a rule of rows breaks at no other line
-pub before-rows : (t : Table) → Laid t → (i : ℕ) (g : ℕ → Bool) → i < t .decls + t .nodes → ofNodeOrRow (λ n. false) g t i ≡ false
+pub before-rows : (t : Table) → InSorts t → (i : ℕ) (g : ℕ → Bool) → i < t .decls + t .nodes → ofNodeOrRow (λ n. false) g t i ≡ false
 before-rows t laid i g h = elim (decLe (t .decls) i) [
   | yes l ↦ at-node t laid i (λ n. false) g l h
   | no l ↦ at-declaration t laid i (λ n. false) g (omega arith)
@@ -109,7 +109,7 @@ row-line t i l = omega arith
 
 -- ---- 8
 
-module _ (t : Table) (laid : Laid t) (i : ℕ) where
+module _ (t : Table) (laid : InSorts t) (i : ℕ) where
   pub node-there : t .decls ≤ i → i < t .decls + t .nodes
       → nodeThere t (i - t .decls) ≡ allThere (rolesOf (kindAt t i)) (t .decls) (i - t .decls) (lineAt (t .words) i)
   unfolding nodeThere
@@ -127,7 +127,8 @@ pub kept-more : (P : ℕ → ℕ → Type 0) (l : List ℕ) (n v : ℕ) → n < 
     → P j (getD (set l n v) j 0)
 kept-more P l n v h e w j k =
     let most : j ≤ n = omega arith in
-    ⊎-elim (λ q. subst (λ x. P x (getD (set l n v) x 0)) (sym q) (rw (getD-set-same l n v 0 h) w)) (λ b. rw (getD-set-other l n j v 0 (λ q. omega arith)) (e j b)) (eq-or-lt-of-le most)
+    ⊎-elim (λ q. subst (λ x. P x (getD (set l n v) x 0)) (sym q) (rw (getD-set-same l n v 0 h) w))
+        (λ b. rw (getD-set-other l n j v 0 (λ q. omega arith)) (e j b)) (eq-or-lt-of-le most)
 
 pub three : (p q r : Bool) → (p && (q && r)) ≡ true → (p ≡ true) × (q ≡ true) × (r ≡ true)
 three true true true e = (refl, refl, refl)

@@ -13,7 +13,7 @@ use Rattle.lists.proofs.FallingLaws.{value-is}
 use Rattle.model.specs.Table.{Table, nodeAt, nodeKind, Role, nodeRoles}
 use Rattle.model.specs.Table.Role.{unused, flag, number, aVariable, aNode}
 use Rattle.table.specs.Rules.{operandDepth, depthBy, depth}
-use Rattle.table.specs.Code.{roleNumber, Laid, Depths, depthBelow, lineDepth}
+use Rattle.table.specs.Code.{roleNumber, InSorts, Depths, depthBelow, lineDepth}
 use Rattle.table.proofs.CodeLaws.{kept-more, roles-node}
 
 operand-by : (r : Role) (below : ℕ → ℕ) (x : ℕ) → operandDepth r below x ≡ (if eqb (roleNumber r) 4 then below x else 0)
@@ -23,7 +23,7 @@ operand-by number below x = refl
 operand-by aVariable below x = refl
 operand-by aNode below x = refl
 
-module _ (t : Table) (laid : Laid t) (depths : List ℕ) (n : ℕ) (known : Depths t depths n) where
+module _ (t : Table) (laid : InSorts t) (depths : List ℕ) (n : ℕ) (known : Depths t depths n) where
   below : (x : ℕ) → (if ltb x n then depth t x else 0) ≡ (if ltb x n then getD depths x 0 else 0)
   below x = go (ltb x n) refl
     where

@@ -1,6 +1,5 @@
 -- The theory of the table checks, which the crates above cite, and the laws by which their code is proved.
 pub mod Sizes
-pub mod Closed
 pub mod Passing
 pub mod ReducedPasses
 pub mod PromiseProofs

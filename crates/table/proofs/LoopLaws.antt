@@ -15,9 +15,9 @@ use Rattle.lists.specs.First.{walk, first}
 use Rattle.lists.proofs.FirstLaws.{walk-more, walk-done, first-hit, first-miss, first-none}
 use Rattle.model.specs.Table.{Table, rowAt, Nest, nestAt, nested, scanned, matchingEnd, openAt}
 use Rattle.model.specs.Table.Nest.{opens, closes, neither}
-use Rattle.model.specs.Accepted.{noneOpen}
-use Rattle.table.specs.Rules.{nestBreaks, breaks11}
-use Rattle.table.specs.Code.{nestNumber, nest, openAfter, scanFrom, rowBreaks11, unnested, firstRow, Laid}
+use Rattle.model.specs.Accepted.{misnested, nestBreaks, noneOpen}
+use Rattle.table.specs.Rules.{breaks11}
+use Rattle.table.specs.Code.{nestNumber, nest, openAfter, scanFrom, unnested, firstRow, InSorts}
 use Rattle.table.proofs.CodeLaws.{at-row, before-rows}
 
 open-nested : (n : Nest) (r : ℕ) (os : List ℕ) → length (nested n r os) ≡ openAfter (nestNumber n) (length os)
@@ -84,29 +84,29 @@ unnested-by opens os u = refl
 unnested-by closes os u = none-open os
 unnested-by neither os u = refl
 
-pub row-by : (t : Table) (r q n : ℕ) → q ≡ nest (rowAt t r .kind) → n ≡ length (openAt t r) → rowBreaks11 t r ≡ unnested q n (leb (t .rows) (matchingEnd t r))
-unfolding nest
+pub row-by : (t : Table) (r q n : ℕ) → q ≡ nest (rowAt t r .kind) → n ≡ length (openAt t r) → misnested t r ≡ unnested q n (leb (t .rows) (matchingEnd t r))
+unfolding nest misnested
 row-by t r q n e h = rw (e, h) (unnested-by (nestAt t r) (openAt t r) (leb (t .rows) (matchingEnd t r)))
 
 -- ---- the loop over the rows: what is sought from line 0 on is what is sought from a row on
 
-module _ (t : Table) (laid : Laid t) where
-  at : (r : ℕ) → r < t .rows → breaks11 t (t .decls + t .nodes + r) ≡ rowBreaks11 t r
+module _ (t : Table) (laid : InSorts t) where
+  at : (r : ℕ) → r < t .rows → breaks11 t (t .decls + t .nodes + r) ≡ misnested t r
   unfolding breaks11
   at r l =
       let back : t .decls + t .nodes + r - (t .decls + t .nodes) ≡ r = omega arith in
-      at-row t laid (t .decls + t .nodes + r) (λ n. false) (rowBreaks11 t) (omega arith) (omega arith) ∙ ap (rowBreaks11 t) back
+      at-row t laid (t .decls + t .nodes + r) (λ n. false) (misnested t) (omega arith) (omega arith) ∙ ap (misnested t) back
 
   pub rows-start : first (breaks11 t) 0 (length (t .words) / 4) ≡ firstRow t 0
   unfolding breaks11
   rows-start =
       let e : t .decls + t .nodes + 0 ≡ t .decls + t .nodes = omega arith in
-      rw e (first-skip (breaks11 t) (t .decls + t .nodes) (length (t .words) / 4) (omega (arith, laid .whole)) (λ j l. before-rows t laid j (rowBreaks11 t) l))
+      rw e (first-skip (breaks11 t) (t .decls + t .nodes) (length (t .words) / 4) (omega (arith, laid .whole)) (λ j l. before-rows t laid j (misnested t) l))
 
-  pub row-hit : (r : ℕ) → r < t .rows → rowBreaks11 t r ≡ true → firstRow t r ≡ At (t .decls + t .nodes + r)
+  pub row-hit : (r : ℕ) → r < t .rows → misnested t r ≡ true → firstRow t r ≡ At (t .decls + t .nodes + r)
   row-hit r l h = first-hit (breaks11 t) (t .decls + t .nodes + r) (length (t .words) / 4) (omega (arith, laid .whole)) (at r l ∙ h)
 
-  pub row-miss : (r : ℕ) → r < t .rows → rowBreaks11 t r ≡ false → firstRow t r ≡ firstRow t (r + 1)
+  pub row-miss : (r : ℕ) → r < t .rows → misnested t r ≡ false → firstRow t r ≡ firstRow t (r + 1)
   row-miss r l h =
       let e : t .decls + t .nodes + r + 1 ≡ t .decls + t .nodes + (r + 1) = omega arith in
       first-miss (breaks11 t) (t .decls + t .nodes + r) (length (t .words) / 4) (omega (arith, laid .whole)) (at r l ∙ h)

@@ -16,15 +16,14 @@ use Rattle.lists.specs.If.{if_then_else_}
 use Rattle.lists.specs.First.{first}
 use Rattle.lists.proofs.TabLaws.{all-true}
 use Rattle.lists.proofs.FirstLaws.{first-nowhere-at}
-use Rattle.model.specs.Table.{Nest, Table, lineAt, lines, matchingEnd, nestAt, openAt, tableOf}
-use Rattle.model.specs.Table.Nest.{opens, closes, neither}
+use Rattle.model.specs.Table.{Nest, Table, lineAt, lineCount, matchingEnd, nestAt, openAt, tableOf}
+use Rattle.model.specs.Table.Nest.{opens}
 use Rattle.model.specs.State.{MachineKind}
 use Rattle.model.specs.Step.{node}
-use Rattle.model.specs.Accepted.{Accepted, endsOpen, known, nodeSuitsMark, nodeThere, nodeTyped, noneOpen, rowOpened, rowSuitsMark, rowThere, rowTyped}
-use Rattle.table.specs.Rules.{breaks10, breaks11, breaks12, breaks8, breaks9, depth, mostDepth, mostOpen, nestBreaks, ofNodeOrRow}
-use Rattle.table.specs.Checks.{andThen, breaks, firstRefusal, order, refusedAt, sizeCheck, tableCheck}
-use Rattle.table.proofs.Sizes.{all-lines, line-known, no-declaration, no-node-at, node-at, not-false, or-left, or-right}
-use Rattle.table.proofs.Closed.{none-open}
+use Rattle.model.specs.Accepted.{Accepted, known, misnested, mostOpen, nestBreaks, nodeSuitsMark, nodeThere, nodeTyped, rowSuitsMark, rowThere, rowTyped}
+use Rattle.table.specs.Rules.{breaks10, breaks11, breaks12, breaks8, breaks9, depth, mostDepth, ofNodeOrRow}
+use Rattle.table.specs.Checks.{andThen, breaks, firstRefusal, order, refusedAtLine, sizeCheck, tableCheck}
+use Rattle.table.proofs.Sizes.{all-lines, line-known, no-declaration, no-node-at, node-at, not-false, or-right}
 
 -- both parts of a check pass
 pub both-pass : (a b : Verdict) → andThen a b ≡ Passes → (a ≡ Passes) × (b ≡ Passes)
@@ -58,7 +57,7 @@ one-passes : (f : ℕ → Found) (k : ℕ) (ks : List ℕ) → firstRefusal f (k
 unfolding firstRefusal
 one-passes f k ks e = go (f k) refl e
   where
-    go : (o : Found) → f k ≡ o → refusedAt o k (firstRefusal f ks) ≡ Passes → (f k ≡ Nothing) × (firstRefusal f ks ≡ Passes)
+    go : (o : Found) → f k ≡ o → refusedAtLine o k (firstRefusal f ks) ≡ Passes → (f k ≡ Nothing) × (firstRefusal f ks ≡ Passes)
     go (At i) u h = absurd (let z : _≡_ {A = ℕ} 0 1 = cc in omega arith)
     go Nothing u h = (u, h)
 
@@ -102,11 +101,11 @@ module _ (m : MachineKind) (w : List ℕ) where
     abbrev t : Table
     t = tableOf w
 
-    pub total : lines t ≡ length w / 4
+    pub total : lineCount t ≡ length w / 4
     total = all-lines m w (P .none5)
 
     -- line i does not break the rule of the number
-    pub unbroken : (k : ℕ) → Unbroken k m w → (i : ℕ) → i < lines t → breaks k m t i ≡ false
+    pub unbroken : (k : ℕ) → Unbroken k m w → (i : ℕ) → i < lineCount t → breaks k m t i ≡ false
     unbroken k h i l = first-nowhere-at (length w / 4) (breaks k m t) 0 h i (omega arith) (omega (arith, total))
 
     -- a rule of nodes, at a node; a rule of rows, at a row
@@ -114,79 +113,73 @@ module _ (m : MachineKind) (w : List ℕ) where
     unfolding tableOf
     of-node node row n h e =
         subst (λ (k : ℕ). node k ≡ false) {x = t .decls + n - t .decls} {y = n} (omega arith)
-        (rw (no-declaration m w (P .none5) (t .decls + n) (omega (arith, total)) (omega arith), node-at m w (P .none5) (t .decls + n) (omega (arith, total)) (omega arith) (omega arith)) at e)
+        (rw (no-declaration m w (P .none5) (t .decls + n) (omega (arith, total)) (omega arith), node-at m w (P .none5) (t .decls + n)
+            (omega (arith, total)) (omega arith) (omega arith)) at e)
 
     of-row : (node row : ℕ → Bool) (r : ℕ) → r < t .rows → ofNodeOrRow node row t (t .decls + t .nodes + r) ≡ false → row r ≡ false
     unfolding tableOf
     of-row node row r h e =
         subst (λ (k : ℕ). row k ≡ false) {x = t .decls + t .nodes + r - (t .decls + t .nodes)} {y = r} (omega arith)
-        (rw (no-declaration m w (P .none5) (t .decls + t .nodes + r) (omega (arith, total)) (omega arith), no-node-at m w (P .none5) (t .decls + t .nodes + r) (omega (arith, total)) (omega arith)) at e)
+        (rw (no-declaration m w (P .none5) (t .decls + t .nodes + r) (omega (arith, total)) (omega arith), no-node-at m w (P .none5)
+            (t .decls + t .nodes + r) (omega (arith, total)) (omega arith)) at e)
 
     node-there : (n : ℕ) → n < t .nodes → nodeThere t n ≡ true
     unfolding breaks breaks8
-    node-there n h = not-false (nodeThere t n) (of-node (λ n. not (nodeThere t n)) (λ r. not (rowThere t r)) n h (unbroken 8 (P .none8) (t .decls + n) (omega arith)))
+    node-there n h = not-false (nodeThere t n)
+        (of-node (λ n. not (nodeThere t n)) (λ r. not (rowThere t r)) n h (unbroken 8 (P .none8) (t .decls + n) (omega arith)))
 
     row-there : (r : ℕ) → r < t .rows → rowThere t r ≡ true
     unfolding breaks breaks8
-    row-there r h = not-false (rowThere t r) (of-row (λ n. not (nodeThere t n)) (λ r. not (rowThere t r)) r h (unbroken 8 (P .none8) (t .decls + t .nodes + r) (omega arith)))
+    row-there r h = not-false (rowThere t r)
+        (of-row (λ n. not (nodeThere t n)) (λ r. not (rowThere t r)) r h (unbroken 8 (P .none8) (t .decls + t .nodes + r) (omega arith)))
 
     node-typed : (n : ℕ) → n < t .nodes → nodeTyped t n ≡ true
     unfolding breaks breaks9
-    node-typed n h = not-false (nodeTyped t n) (of-node (λ n. not (nodeTyped t n)) (λ r. not (rowTyped t r)) n h (unbroken 9 (P .none9) (t .decls + n) (omega arith)))
+    node-typed n h = not-false (nodeTyped t n)
+        (of-node (λ n. not (nodeTyped t n)) (λ r. not (rowTyped t r)) n h (unbroken 9 (P .none9) (t .decls + n) (omega arith)))
 
     row-typed : (r : ℕ) → r < t .rows → rowTyped t r ≡ true
     unfolding breaks breaks9
-    row-typed r h = not-false (rowTyped t r) (of-row (λ n. not (nodeTyped t n)) (λ r. not (rowTyped t r)) r h (unbroken 9 (P .none9) (t .decls + t .nodes + r) (omega arith)))
+    row-typed r h = not-false (rowTyped t r)
+        (of-row (λ n. not (nodeTyped t n)) (λ r. not (rowTyped t r)) r h (unbroken 9 (P .none9) (t .decls + t .nodes + r) (omega arith)))
 
     -- 10, for those above who count on it
     pub node-depth : (n : ℕ) → n < t .nodes → depth t n ≤ mostDepth
     unfolding breaks breaks10
-    node-depth n h = ltb-false mostDepth (depth t n) (of-node (λ n. ltb mostDepth (depth t n)) (λ r. false) n h (unbroken 10 (P .none10) (t .decls + n) (omega arith)))
+    node-depth n h = ltb-false mostDepth (depth t n)
+        (of-node (λ n. ltb mostDepth (depth t n)) (λ r. false) n h (unbroken 10 (P .none10) (t .decls + n) (omega arith)))
 
-    row-nested : (r : ℕ) → r < t .rows → nestBreaks (nestAt t r) (openAt t r) (leb (t .rows) (matchingEnd t r)) ≡ false
+    row-nested : (r : ℕ) → r < t .rows → misnested t r ≡ false
     unfolding breaks breaks11
-    row-nested r h =
-        of-row (λ n. false) (λ r. nestBreaks (nestAt t r) (openAt t r) (leb (t .rows) (matchingEnd t r))) r h (unbroken 11 (P .none11) (t .decls + t .nodes + r) (omega arith))
-
-    end-open : (r : ℕ) → r < t .rows → rowOpened t r ≡ true
-    unfolding rowOpened
-    end-open r h = go (nestAt t r) (row-nested r h)
-      where
-        go : (n : Nest) → nestBreaks n (openAt t r) (leb (t .rows) (matchingEnd t r)) ≡ false → endsOpen n (openAt t r) ≡ true
-        go opens e = refl
-        go closes e = ap not e
-        go neither e = refl
-
-    loop-closed : (r : ℕ) → r < t .rows → nestAt t r ≡ opens → matchingEnd t r < t .rows
-    loop-closed r h e =
-        leb-false (t .rows) (matchingEnd t r) (or-left (leb (t .rows) (matchingEnd t r)) (leb mostOpen (length (openAt t r)))
-        (subst (λ (n : Nest). nestBreaks n (openAt t r) (leb (t .rows) (matchingEnd t r)) ≡ false) e (row-nested r h)))
+    row-nested r h = of-row (λ n. false) (misnested t) r h (unbroken 11 (P .none11) (t .decls + t .nodes + r) (omega arith))
 
     -- 11's "inside eight", for those above who count on it
     pub few-open : (r : ℕ) → r < t .rows → nestAt t r ≡ opens → length (openAt t r) < mostOpen
+    unfolding misnested
     few-open r h e =
         leb-false mostOpen (length (openAt t r)) (or-right (leb (t .rows) (matchingEnd t r)) (leb mostOpen (length (openAt t r)))
         (subst (λ (n : Nest). nestBreaks n (openAt t r) (leb (t .rows) (matchingEnd t r)) ≡ false) e (row-nested r h)))
 
     node-suits-mark : (n : ℕ) → n < t .nodes → nodeSuitsMark m t n ≡ true
     unfolding breaks breaks12
-    node-suits-mark n h = not-false (nodeSuitsMark m t n) (of-node (λ n. not (nodeSuitsMark m t n)) (λ r. not (rowSuitsMark m t r)) n h (unbroken 12 (P .none12) (t .decls + n) (omega arith)))
+    node-suits-mark n h = not-false (nodeSuitsMark m t n)
+        (of-node (λ n. not (nodeSuitsMark m t n)) (λ r. not (rowSuitsMark m t r)) n h (unbroken 12 (P .none12) (t .decls + n) (omega arith)))
 
     row-suits-mark : (r : ℕ) → r < t .rows → rowSuitsMark m t r ≡ true
     unfolding breaks breaks12
-    row-suits-mark r h = not-false (rowSuitsMark m t r) (of-row (λ n. not (nodeSuitsMark m t n)) (λ r. not (rowSuitsMark m t r)) r h (unbroken 12 (P .none12) (t .decls + t .nodes + r) (omega arith)))
+    row-suits-mark r h = not-false (rowSuitsMark m t r)
+        (of-row (λ n. not (nodeSuitsMark m t n)) (λ r. not (rowSuitsMark m t r)) r h (unbroken 12 (P .none12) (t .decls + t .nodes + r) (omega arith)))
 
     pub accepted : Accepted m t
     unfolding tableOf
     accepted = record {
       whole = omega (arith, total, P .whole);
-      kinds = all-true (lines t) (λ i. known m (lineAt (t .words) i .kind)) (λ i l. line-known m w (P .none5) i (omega (arith, total)));
+      kinds = all-true (lineCount t) (λ i. known m (lineAt (t .words) i .kind)) (λ i l. line-known m w (P .none5) i (omega (arith, total)));
       nodesThere = all-true (t .nodes) (nodeThere t) node-there;
       rowsThere = all-true (t .rows) (rowThere t) row-there;
       nodesTyped = all-true (t .nodes) (nodeTyped t) node-typed;
       rowsTyped = all-true (t .rows) (rowTyped t) row-typed;
-      endsOpened = all-true (t .rows) (rowOpened t) end-open;
-      loopsClosed = ap noneOpen (none-open t loop-closed);
+      rowsNested = all-true (t .rows) (λ r. not (misnested t r)) (λ r h. ap not (row-nested r h));
       nodesSuit = all-true (t .nodes) (nodeSuitsMark m t) node-suits-mark;
       rowsSuit = all-true (t .rows) (rowSuitsMark m t) row-suits-mark;
     }

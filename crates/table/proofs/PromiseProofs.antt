@@ -1,7 +1,5 @@
 -- Never stuck and demand 3, of every table that passes the checks.
 -- Assumes nothing.
-use Prim.Native.Nat.{ℕ}
-use mathlib.Core.List.{List}
 use Rattle.model.specs.Table.{tableOf}
 use Rattle.model.specs.State.MachineKind.{plain, reduced}
 use Rattle.model.specs.Reduce.{reduce}
@@ -21,4 +19,4 @@ pub passing-never-stuck : PassingNeverStuck
 passing-never-stuck ps m w e = never-stuck ps m (tableOf w) (passes-accepted m w e)
 
 pub passing-demand-3 : PassingDemand3
-passing-demand-3 c1 c2 h P e = demand-3 c1 c2 h P (passes-accepted plain P e)
+passing-demand-3 ps h P e = demand-3 ps h P (passes-accepted plain P e)

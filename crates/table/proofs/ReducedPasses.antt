@@ -1,34 +1,36 @@
 -- The reduction of a table that passes the plain checks passes the reduced ones.
 -- Assumes nothing.
-use Prim.Native.Nat.{ℕ, zero, suc, _+_, _-_, _*_, _/_, _%_, _<_, _≤_}
+use Prim.Native.Nat.{ℕ, _+_, _-_, _/_, _%_, _<_}
 use native.Mathlib.Omega.{arith}
 use mathlib.Core.Path.{_≡_, refl, sym, ap, _∙_, subst, fun-ext}
-use mathlib.Core.Bool.{Bool, true, false, not, _&&_, _||_}
-use mathlib.Core.List.{List, [], _∷_}
+use mathlib.Core.Bool.{Bool, true, false, not}
+use mathlib.Core.List.{List}
 use lib.ListN.{length}
-use lib.Dec.{ltb, leb, eqb}
+use lib.Dec.{ltb}
 use Rattle.lists.specs.declared.Found.the-variants.{Nothing}
-use Rattle.table.specs.declared.Verdict.the-variants.{Passes}
 use Rattle.lists.specs.If.{if_then_else_}
 use Rattle.lists.specs.First.{first}
 use Rattle.lists.specs.Falling.{valueAt}
 use Rattle.lists.proofs.FirstLaws.{first-nowhere}
-use Rattle.model.specs.Table.{Table, isDeclaration, isNode, lineAt, lines, marked, markedUint, matchingEnd, nestAt, nodeAt, nodeKind, nodeRoles, openAt, rowKind, rowRoles, tableOf}
+use Rattle.model.specs.Table.{Table, isDeclaration, isNode, lineAt, lineCount, marked, markedUint, nodeAt, nodeKind, nodeRoles, rowKind, rowRoles, tableOf}
 use Rattle.model.specs.State.MachineKind.{plain, reduced}
 use Rattle.model.specs.Eval.{below}
 use Rattle.model.specs.Step.{node}
 use Rattle.model.specs.Reduce.{reduce, reducedKind}
-use Rattle.model.specs.Accepted.{Accepted, known, nodeSuitsMark, nodeThere, nodeTyped, rowSuitsMark, rowThere, rowTyped}
-use Rattle.model.proofs.MatchStep.{nest-same, same-end}
-use Rattle.model.proofs.ReduceLaws.{declaration-stays, length-reduce, new-node, new-row, reduce-a, reduce-b, reduce-c, reduce-kind, reducedTable, same-declaration, same-isNode, same-isRow, table-reduce}
-use Rattle.model.proofs.ReducedAccepted.{R, kind-known, node-suit, open-same, row-suit, rowThere-same, rowTyped-same, same-roles, same-rowRoles, there-same, typed-same}
-use Rattle.table.specs.Rules.{breaks10, breaks11, breaks12, breaks5, breaks6, breaks7, breaks8, breaks9, depth, depthBy, kindAt, mostDepth, nestBreaks, ofNodeOrRow, rolesOf, sortNumber}
+use Rattle.model.specs.Accepted.{Accepted, known, misnested, nodeSuitsMark, nodeThere, nodeTyped, rowSuitsMark, rowThere, rowTyped}
+use Rattle.model.proofs.ReduceLaws.{declaration-stays, length-reduce, new-node, new-row, reduce-a, reduce-b, reduce-c, reduce-kind, reducedTable}
+use Rattle.model.proofs.ReduceLaws.{same-declaration, same-isNode, same-isRow, table-reduce}
+use Rattle.model.proofs.ReducedAccepted.{R, kind-known, nested-same, node-suit, row-suit, rowThere-same, rowTyped-same, same-roles, same-rowRoles}
+use Rattle.model.proofs.ReducedAccepted.{there-same, typed-same}
+use Rattle.table.specs.Rules.{breaks10, breaks11, breaks12, breaks5, breaks6, breaks7, breaks8, breaks9, depth, depthBy, kindAt, mostDepth}
+use Rattle.table.specs.Rules.{ofNodeOrRow, rolesOf, sortNumber}
 use Rattle.table.specs.Checks.{breaks}
 use Rattle.table.proofs.Sizes.{or-right}
 use Rattle.table.proofs.Passing.{Passing, Unbroken, accepted, total, unbroken}
 
 -- the roles of a reduced kind are those of the kind
-same-rolesOf : (x q : Bool) (k : ℕ) → isDeclaration (reducedKind x q k) ≡ isDeclaration k → isNode (reducedKind x q k) ≡ isNode k → rolesOf (reducedKind x q k) ≡ rolesOf k
+same-rolesOf : (x q : Bool) (k : ℕ) → isDeclaration (reducedKind x q k) ≡ isDeclaration k → isNode (reducedKind x q k) ≡ isNode k
+    → rolesOf (reducedKind x q k) ≡ rolesOf k
 unfolding rolesOf
 same-rolesOf x q k e f = go (isDeclaration k) refl (isNode k) refl
   where
@@ -65,11 +67,13 @@ module _ (w : List ℕ) (P : Passing plain w) where
   unfolding depth
   depth-same = ap (λ (f : ℕ → (ℕ → ℕ) → ℕ). valueAt f 0) (fun-ext λ n. fun-ext λ below. go n below)
     where
-      go : (n : ℕ) (below : ℕ → ℕ) → depthBy (nodeRoles (nodeKind (nodeAt u n .kind))) below (nodeAt u n) ≡ depthBy (nodeRoles (nodeKind (nodeAt t n .kind))) below (nodeAt t n)
+      go : (n : ℕ) (below : ℕ → ℕ)
+          → depthBy (nodeRoles (nodeKind (nodeAt u n .kind))) below (nodeAt u n) ≡ depthBy (nodeRoles (nodeKind (nodeAt t n .kind))) below (nodeAt t n)
       go n below =
-          rw (R t A .nodes .kind n, R t A .nodes .a n, R t A .nodes .b n, R t A .nodes .c n, same-roles (markedUint t (nodeAt t n .a)) (nodeKind (nodeAt t n .kind)))
+          rw (R t A .nodes .kind n, R t A .nodes .a n, R t A .nodes .b n, R t A .nodes .c n, same-roles (markedUint t (nodeAt t n .a))
+              (nodeKind (nodeAt t n .kind)))
 
-  module _ (i : ℕ) (l : i < lines t) where
+  module _ (i : ℕ) (l : i < lineCount t) where
     same5 : breaks 5 reduced u i ≡ false
     unfolding breaks breaks5 tableOf
     same5 =
@@ -88,38 +92,41 @@ module _ (w : List ℕ) (P : Passing plain w) where
         roles-here : rolesOf (lineAt (reduce w) i .kind) ≡ rolesOf (lineAt w i .kind)
         roles-here =
             ap rolesOf (reduce-kind w i)
-            ∙ same-rolesOf (marked w 2 (lineAt w i .a)) (marked w 3 (lineAt w i .a)) (lineAt w i .kind) (ap isDeclaration (sym (reduce-kind w i)) ∙ same-declaration w i) (ap isNode (sym (reduce-kind w i)) ∙ same-isNode w i)
+            ∙ same-rolesOf (marked w 2 (lineAt w i .a)) (marked w 3 (lineAt w i .a)) (lineAt w i .kind)
+                (ap isDeclaration (sym (reduce-kind w i)) ∙ same-declaration w i) (ap isNode (sym (reduce-kind w i)) ∙ same-isNode w i)
 
     same8 : breaks 8 reduced u i ≡ false
     unfolding breaks breaks8
     same8 =
-        same-of (λ n. not (nodeThere u n)) (λ n. not (nodeThere t n)) (λ r. not (rowThere u r)) (λ r. not (rowThere t r)) (λ n. ap not (there-same t A n)) (λ r. ap not (rowThere-same t A r)) i
+        same-of (λ n. not (nodeThere u n)) (λ n. not (nodeThere t n)) (λ r. not (rowThere u r)) (λ r. not (rowThere t r)) (λ n. ap not (there-same t A n))
+            (λ r. ap not (rowThere-same t A r)) i
         ∙ unbroken plain w P 8 (P .none8) i l
 
     same9 : breaks 9 reduced u i ≡ false
     unfolding breaks breaks9
     same9 =
-        same-of (λ n. not (nodeTyped u n)) (λ n. not (nodeTyped t n)) (λ r. not (rowTyped u r)) (λ r. not (rowTyped t r)) (λ n. ap not (typed-same t A n)) (λ r. ap not (rowTyped-same t A r)) i
+        same-of (λ n. not (nodeTyped u n)) (λ n. not (nodeTyped t n)) (λ r. not (rowTyped u r)) (λ r. not (rowTyped t r)) (λ n. ap not (typed-same t A n))
+            (λ r. ap not (rowTyped-same t A r)) i
         ∙ unbroken plain w P 9 (P .none9) i l
 
     same10 : breaks 10 reduced u i ≡ false
     unfolding breaks breaks10
     same10 =
-        same-of (λ n. ltb mostDepth (depth u n)) (λ n. ltb mostDepth (depth t n)) (λ r. false) (λ r. false) (λ n. ap (λ (f : ℕ → ℕ). ltb mostDepth (f n)) depth-same) (λ r. refl) i
+        same-of (λ n. ltb mostDepth (depth u n)) (λ n. ltb mostDepth (depth t n)) (λ r. false) (λ r. false)
+            (λ n. ap (λ (f : ℕ → ℕ). ltb mostDepth (f n)) depth-same) (λ r. refl) i
         ∙ unbroken plain w P 10 (P .none10) i l
 
     same11 : breaks 11 reduced u i ≡ false
     unfolding breaks breaks11
     same11 =
-        same-of (λ n. false) (λ n. false) (λ r. nestBreaks (nestAt u r) (openAt u r) (leb (u .rows) (matchingEnd u r))) (λ r. nestBreaks (nestAt t r) (openAt t r) (leb (t .rows) (matchingEnd t r)))
-        (λ n. refl) (λ r. rw (nest-same t u (R t A) r, open-same t A r, same-end t u (R t A) r)) i
-        ∙ unbroken plain w P 11 (P .none11) i l
+        same-of (λ n. false) (λ n. false) (misnested u) (misnested t) (λ n. refl) (nested-same t A) i ∙ unbroken plain w P 11 (P .none11) i l
 
     same12 : breaks 12 reduced u i ≡ false
     unfolding breaks breaks12
-    same12 = none-breaks u i (λ n. not (nodeSuitsMark reduced u n)) (λ r. not (rowSuitsMark reduced u r)) (λ n. ap not (node-suit t A n)) (λ r. ap not (row-suit t A r))
+    same12 = none-breaks u i (λ n. not (nodeSuitsMark reduced u n)) (λ r. not (rowSuitsMark reduced u r)) (λ n. ap not (node-suit t A n))
+        (λ r. ap not (row-suit t A r))
 
-  unbroken-reduced : (k : ℕ) → ((i : ℕ) → i < lines t → breaks k reduced u i ≡ false) → Unbroken k reduced (reduce w)
+  unbroken-reduced : (k : ℕ) → ((i : ℕ) → i < lineCount t → breaks k reduced u i ≡ false) → Unbroken k reduced (reduce w)
   unbroken-reduced k h =
       subst (λ (q : Table). first (breaks k reduced q) 0 (length (reduce w) / 4) ≡ Nothing) (sym (table-reduce w))
       (subst (λ (n : ℕ). first (breaks k reduced u) 0 (n / 4) ≡ Nothing) (sym (length-reduce w))

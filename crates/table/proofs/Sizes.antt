@@ -1,14 +1,14 @@
 -- Where the lines of each sort stand in a table that breaks neither 5 nor 6, and how many there are.
 -- Assumes nothing.
-use Prim.Native.Nat.{ℕ, zero, suc, _+_, _-_, _*_, _/_, _%_, _<_, _≤_}
+use Prim.Native.Nat.{ℕ, zero, suc, _+_, _-_, _/_, _%_, _<_, _≤_}
 use native.Mathlib.Omega.{arith}
 use native.Mathlib.Decide.{decLe}
 use mathlib.Core.Path.{_≡_, refl, sym, ap, _∙_, subst}
 use mathlib.Core.Bool.{Bool, true, false, not, _&&_, _||_, false≢true, true≢false}
-use mathlib.Core.List.{List, [], _∷_}
+use mathlib.Core.List.{List}
 use lib.ListN.{length}
-use lib.Dec.{ltb, leb, eqb}
-use borrow.Author.Tests.{ltb-true, ltb-false, leb-true, leb-false, lt-ltb, le-ltb, le-leb, lt-leb}
+use lib.Dec.{ltb, leb}
+use borrow.Author.Tests.{ltb-false, leb-true, leb-false, lt-ltb, le-ltb, le-leb, lt-leb}
 use Rattle.lists.specs.declared.Found.the-variants.{Nothing}
 use Rattle.lists.specs.If.{if_then_else_}
 use Rattle.lists.specs.Tab.{sum}
@@ -16,7 +16,7 @@ use Rattle.lists.specs.First.{first}
 use Rattle.lists.proofs.TabLaws.{same-sum}
 use Rattle.lists.proofs.FirstLaws.{first-nowhere-at}
 use Rattle.lists.proofs.CountLaws.{bit, counted, sum-add, sum-ones, uncounted}
-use Rattle.model.specs.Table.{isDeclaration, isNode, isRow, lineAt, lines, tableOf}
+use Rattle.model.specs.Table.{isDeclaration, isNode, isRow, lineAt, lineCount, tableOf}
 use Rattle.model.specs.State.{MachineKind}
 use Rattle.model.specs.Accepted.{known}
 use Rattle.table.specs.Rules.{breaks5, breaks6, mostDeclarations, mostNodes, mostRows, sortNumber}
@@ -145,7 +145,7 @@ module _ (m : MachineKind) (w : List ℕ) (none : first (breaks 5 m (tableOf w))
       ∙ sum-add n (λ i. bit (isDeclaration (kind i))) (λ i. bit (isNode (kind i)))
 
   -- every line is of one sort
-  pub all-lines : lines (tableOf w) ≡ n
+  pub all-lines : lineCount (tableOf w) ≡ n
   unfolding tableOf
   all-lines =
       sym (sum-add n (λ i. bit (isDeclaration (kind i)) + bit (isNode (kind i))) (λ i. bit (isRow (kind i)))
@@ -219,7 +219,8 @@ module _ (m : MachineKind) (w : List ℕ) (none : first (breaks 5 m (tableOf w))
       | no h ↦ absurd (omega (
         arith,
         within (d + mostNodes) (d + mostNodes) (isNode (kind (d + mostNodes)))
-            (or-left _ _ (or-right (isDeclaration (kind (d + mostNodes)) && leb mostDeclarations (d + mostNodes)) _ (unbroken6 (d + mostNodes) (omega (arith, all-lines)))))
+            (or-left _ _ (or-right (isDeclaration (kind (d + mostNodes)) && leb mostDeclarations (d + mostNodes)) _
+                (unbroken6 (d + mostNodes) (omega (arith, all-lines)))))
             (node-at (d + mostNodes) (omega (arith, all-lines)) (omega arith) (omega arith)),
       ))
     ]
@@ -238,6 +239,7 @@ module _ (m : MachineKind) (w : List ℕ) (none : first (breaks 5 m (tableOf w))
     ]
 
 -- at most 32 declarations, 1,024 nodes and 256 rows, and no other line
-pub sizes : (m : MachineKind) (w : List ℕ) → length w % 4 ≡ 0 → first (breaks 5 m (tableOf w)) 0 (length w / 4) ≡ Nothing → first (breaks 6 m (tableOf w)) 0 (length w / 4) ≡ Nothing
+pub sizes : (m : MachineKind) (w : List ℕ) → length w % 4 ≡ 0 → first (breaks 5 m (tableOf w)) 0 (length w / 4) ≡ Nothing
+    → first (breaks 6 m (tableOf w)) 0 (length w / 4) ≡ Nothing
     → (tableOf w .decls ≤ 32) × (tableOf w .nodes ≤ 1024) × (tableOf w .rows ≤ 256) × (tableOf w .decls + tableOf w .nodes + tableOf w .rows ≡ length w / 4)
 sizes m w e a b = (few-declarations m w a b, few-nodes m w a b, few-rows m w a b, all-lines m w a)

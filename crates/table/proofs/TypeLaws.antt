@@ -10,16 +10,20 @@ use lib.Dec.{ltb}
 use borrow.Author.Tests.{ltb-true, leb-true, le-ltb, le-leb}
 use Rattle.lists.specs.If.{if_then_else_}
 use Rattle.lists.proofs.FallingLaws.{value-is}
-use Rattle.model.specs.Table.{Table, lineAt, isNode, isRow, nodeAt, typeAt, Ty, Node, nodeKind, Row, rowKind, Role, nodeRoles, rowRoles, markedUint, markedPointer}
+use Rattle.model.specs.Table.{Table, lineAt, isNode, isRow, nodeAt, typeAt, Ty, Node, nodeKind, Row, rowKind, Role, nodeRoles, rowRoles, markedUint}
+use Rattle.model.specs.Table.{markedPointer}
 use Rattle.model.specs.Table.Ty.{bool}
-use Rattle.model.specs.Table.Node.{variable, uintConstant, boolConstant, cell, plus, minus, less, atMost, equal, conditional, valid, classVariable, reducedCell, reducedValid, noNode}
+use Rattle.model.specs.Table.Node.{variable, uintConstant, boolConstant, cell, plus, minus, less, atMost, equal, conditional, valid, classVariable}
+use Rattle.model.specs.Table.Node.{reducedCell, reducedValid, noNode}
 use Rattle.model.specs.Table.Row.{skip, assign, store, assert, assume, array, loop, loopEnd, reducedStore, reducedArray, classLoop, noRow}
 use Rattle.model.specs.Table.Role.{unused, flag, number, aVariable, aNode}
 use Rattle.model.specs.State.{MachineKind}
-use Rattle.model.specs.Accepted.{there, nodeThere, rowThere, typeBy, nodeType, tyNumber, typedNode, nodeTyped, typedRow, rowTyped, isReduced, nodeSuits, rowSuits, nodeSuitsMark, rowSuitsMark}
+use Rattle.model.specs.Accepted.{there, nodeThere, rowThere, typeBy, nodeType, tyNumber, typedNode, nodeTyped, typedRow, rowTyped, isReduced, nodeSuits}
+use Rattle.model.specs.Accepted.{rowSuits, nodeSuitsMark, rowSuitsMark}
 use Rattle.table.specs.Rules.{kindAt, breaks9, breaks12}
 use Rattle.table.specs.Checks.{machineOf}
-use Rattle.table.specs.Code.{Laid, There, Types, typeBelow, variableType, lineType, lineTyped, typing, nodeTyping, rowTyping, typedBy, result, nodeResult, resultBy, marking, nodeMarking, rowMarking, suitsMark, lineSuits}
+use Rattle.table.specs.Code.{InSorts, There, Types, typeBelow, variableType, lineType, lineTyped, typing, nodeTyping, rowTyping, typedBy, result}
+use Rattle.table.specs.Code.{nodeResult, resultBy, marking, nodeMarking, rowMarking, suitsMark, lineSuits}
 use Rattle.table.proofs.CodeLaws.{at-declaration, by-line, kept-more, node-line, row-line, three}
 
 -- ---- the type of a node
@@ -120,7 +124,7 @@ module _ (ty : ℕ → Ty) (a b c : ℕ) (x y z : ℕ) where
 not-node : (k : ℕ) → isRow k ≡ true → isNode k ≡ false
 not-node k e = let high : 32 ≤ k = leb-true 32 k e in rw (le-leb 16 k (omega arith), le-ltb k 32 high)
 
-module _ (t : Table) (laid : Laid t) (i : ℕ) where
+module _ (t : Table) (laid : InSorts t) (i : ℕ) where
   module _ (th : There t) (types : List ℕ) (known : Types t types (t .nodes)) where
     line-node : t .decls ≤ i → i < t .decls + t .nodes → nodeTyped t (i - t .decls) ≡ lineTyped (t .words) types i
     unfolding nodeTyped typing nodeThere

@@ -33,13 +33,13 @@ abbrev pub order : List ℕ
 order = 5 ∷ 6 ∷ 7 ∷ 8 ∷ 9 ∷ 10 ∷ 11 ∷ 12 ∷ []
 
 -- "the place is the first that breaks it" (R1, R2)
-abbrev pub refusedAt : Found → ℕ → Verdict → Verdict
-refusedAt (At line) k rest = Refused k line
-refusedAt Nothing k rest = rest
+abbrev pub refusedAtLine : Found → ℕ → Verdict → Verdict
+refusedAtLine (At line) k rest = Refused k line
+refusedAtLine Nothing k rest = rest
 
 unfoldable pub firstRefusal : (ℕ → Found) → List ℕ → Verdict
 firstRefusal f [] = Passes
-firstRefusal f (k ∷ ks) = let rest = firstRefusal f ks in refusedAt (f k) k rest
+firstRefusal f (k ∷ ks) = let rest = firstRefusal f ks in refusedAtLine (f k) k rest
 
 -- 4: "words no multiple of 4", at place 0; then the others
 unfoldable pub tableCheck : MachineKind → List ℕ → Verdict

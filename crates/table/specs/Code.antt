@@ -9,14 +9,16 @@ use Rattle.lists.specs.If.{if_then_else_}
 use Rattle.lists.specs.Tab.{sum}
 use Rattle.lists.specs.First.{walk, first}
 use Rattle.lists.specs.declared.Found.{Found}
-use Rattle.model.specs.Table.{Table, lineAt, typeOf, marked, count, isDeclaration, isNode, isRow, Node, nodeKind, Row, rowKind, Role, Nest, nestOf, nestAt, openAt, matchingEnd, scanned}
-use Rattle.model.specs.Table.Node.{variable, uintConstant, boolConstant, cell, plus, minus, less, atMost, equal, conditional, valid, classVariable, reducedCell, reducedValid, noNode}
+use Rattle.model.specs.Table.{Table, lineAt, typeOf, marked, count, isDeclaration, isNode, isRow, Node, nodeKind, Row, rowKind, Role, Nest, nestOf, nestAt}
+use Rattle.model.specs.Table.{scanned}
+use Rattle.model.specs.Table.Node.{variable, uintConstant, boolConstant, cell, plus, minus, less, atMost, equal, conditional, valid, classVariable}
+use Rattle.model.specs.Table.Node.{reducedCell, reducedValid, noNode}
 use Rattle.model.specs.Table.Row.{skip, assign, store, assert, assume, array, loop, loopEnd, reducedStore, reducedArray, classLoop, noRow}
 use Rattle.model.specs.Table.Role.{unused, flag, number, aVariable, aNode}
 use Rattle.model.specs.Table.Nest.{opens, closes, neither}
-use Rattle.model.specs.Accepted.{nodeThere, rowThere, nodeType, tyNumber}
+use Rattle.model.specs.Accepted.{mostOpen, nodeThere, rowThere, nodeType, tyNumber}
 use Rattle.table.specs.declared.Counts.{Counts}
-use Rattle.table.specs.Rules.{kindAt, depth, rolesOf, mostOpen, nestBreaks, breaks11}
+use Rattle.table.specs.Rules.{kindAt, depth, rolesOf, breaks11}
 use Rattle.table.specs.Checks.{machineOf, breaks}
 
 abbrev pub countsOf : List ℕ → Counts
@@ -153,13 +155,13 @@ rowMarking noRow = 0
 unfoldable pub marking : ℕ → ℕ
 marking k = if isNode k then nodeMarking (nodeKind k) else rowMarking (rowKind k)
 
--- m: the table is reduced; u: the variable is a marked uint; p: it is a marked pointer
+-- r: the table is reduced; u: the variable is a marked uint; p: it is a marked pointer
 unfoldable pub suitsMark : ℕ → Bool → Bool → Bool → Bool
-suitsMark k m u p =
-    if eqb k 1 then not (m && u)
+suitsMark k r u p =
+    if eqb k 1 then not (r && u)
     else (if eqb k 2 then u
     else (if eqb k 3 then not u
-    else (if eqb k 4 then not (m && p)
+    else (if eqb k 4 then not (r && p)
     else (if eqb k 5 then p
     else true))))
 
@@ -180,9 +182,6 @@ abbrev pub scanFrom : Table → ℕ → ℕ → ℕ
 scanFrom t i d = walk (λ i rest. scanned (nestAt t i) i rest) (λ d. t .rows) i (t .rows - i) d
 
 -- 11, of a row: by how it nests, the count of open loops, and whether it is unclosed
-abbrev pub rowBreaks11 : Table → ℕ → Bool
-rowBreaks11 t r = nestBreaks (nestAt t r) (openAt t r) (leb (t .rows) (matchingEnd t r))
-
 abbrev pub unnested : ℕ → ℕ → Bool → Bool
 unnested k n unclosed = if eqb k 2 then eqb n 0 else (if eqb k 1 then unclosed || leb mostOpen n else false)
 
@@ -194,7 +193,7 @@ firstRow t r = first (breaks11 t) (t .decls + t .nodes + r) (length (t .words) /
 
 -- a digit for each question, of base 16: the roles of a, b and c, typing, result, marking, nest
 abbrev pub entry : ℕ → ℕ → ℕ → ℕ → ℕ → ℕ → ℕ → ℕ
-entry a b c t r m n = (((((a * 16 + b) * 16 + c) * 16 + t) * 16 + r) * 16 + m) * 16 + n
+entry a b c types gives marks nests = (((((a * 16 + b) * 16 + c) * 16 + types) * 16 + gives) * 16 + marks) * 16 + nests
 
 unfoldable pub entries : List ℕ
 entries =
@@ -246,7 +245,7 @@ entries =
 -- ---- what earlier checks leave
 
 -- 4, 5 and 6: the lines of each sort stand together, and are no more than their limit
-pub record Laid (t : Table) : Type 0 where
+pub record InSorts (t : Table) : Type 0 where
   pub whole : length (t .words) ≡ 4 * (t .decls + t .nodes + t .rows)
   pub fewDecls : t .decls ≤ 32
   pub fewNodes : t .nodes ≤ 1024
@@ -281,11 +280,12 @@ lineType w types i n =
 -- a line's operands have the types that its kind asks
 abbrev pub lineTyped : List ℕ → List ℕ → ℕ → Bool
 lineTyped w types i =
-    typedBy (typing (lineAt w i .kind)) (variableType w (lineAt w i .a)) (getD types (lineAt w i .a) 0) (getD types (lineAt w i .b) 0) (getD types (lineAt w i .c) 0)
+    typedBy (typing (lineAt w i .kind)) (variableType w (lineAt w i .a)) (getD types (lineAt w i .a) 0) (getD types (lineAt w i .b) 0)
+        (getD types (lineAt w i .c) 0)
 
 -- the mark of the variable that a line names suits its kind
 abbrev pub lineSuits : List ℕ → Bool → ℕ → Bool
-lineSuits w m i = suitsMark (marking (lineAt w i .kind)) m (marked w 2 (lineAt w i .a)) (marked w 3 (lineAt w i .a))
+lineSuits w r i = suitsMark (marking (lineAt w i .kind)) r (marked w 2 (lineAt w i .a)) (marked w 3 (lineAt w i .a))
 
 -- the buffer has the depths of the first n nodes
 pub record Depths (t : Table) (depths : List ℕ) (n : ℕ) : Type 0 where

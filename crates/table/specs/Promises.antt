@@ -1,9 +1,9 @@
 -- What is proved of every table that passes the checks: proofs/PromiseProofs.
 use mathlib.Core.Path.{_≡_}
 use Prim.Native.Nat.{ℕ}
-use mathlib.Core.Bool.{Bool, true}
+use mathlib.Core.Bool.{true}
 use mathlib.Core.List.{List}
-use Rattle.model.specs.Class.{acceptedPair}
+use Rattle.model.specs.Class.{acceptedPlaces}
 use Rattle.model.specs.Table.{tableOf}
 use Rattle.model.specs.State.{MachineKind, State}
 use Rattle.model.specs.State.MachineKind.{plain, reduced}
@@ -28,6 +28,6 @@ PassingNeverStuck =
     (ps : List ℕ) (m : MachineKind) (w : List ℕ) → tableCheck m w ≡ Passes → (s : State) → CanHave ps m (tableOf w) s
     → (limit : ℕ) (choices : List ℕ) → Ends ps m (tableOf w) choices (run ps (tableOf w) limit 0 s choices)
 
--- demand 3, of every passing table and accepted pair
+-- demand 3, of every passing table and accepted places
 abbrev pub PassingDemand3 : Type 0
-PassingDemand3 = (c1 c2 : ℕ) → acceptedPair c1 c2 ≡ true → (P : List ℕ) → tableCheck plain P ≡ Passes → Demand3 c1 c2 P
+PassingDemand3 = (ps : List ℕ) → acceptedPlaces ps ≡ true → (P : List ℕ) → tableCheck plain P ≡ Passes → Demand3 ps P

@@ -2,16 +2,13 @@
 -- What demand 3 needs of them is said in the model (specs/Accepted), and is used from there.
 use Prim.Native.Nat.{ℕ, _+_, _-_, max}
 use mathlib.Core.Bool.{Bool, true, false, not, _&&_, _||_}
-use mathlib.Core.List.{List}
-use lib.ListN.{length}
 use lib.Dec.{ltb, leb, eqb}
 use Rattle.lists.specs.If.{if_then_else_}
 use Rattle.lists.specs.Falling.{valueAt}
-use Rattle.model.specs.Table.{Table, Line, lineAt, isDeclaration, isNode, isRow, nodeAt, Role, Roles, declarationRoles, nodeRoles, rowRoles, nodeKind, rowKind, Nest, nestAt, matchingEnd, openAt}
+use Rattle.model.specs.Table.{Table, Line, lineAt, isDeclaration, isNode, isRow, nodeAt, Role, Roles, declarationRoles, nodeRoles, rowRoles, nodeKind, rowKind}
 use Rattle.model.specs.Table.Role.{unused, flag, number, aVariable, aNode}
-use Rattle.model.specs.Table.Nest.{opens, closes, neither}
 use Rattle.model.specs.State.{MachineKind}
-use Rattle.model.specs.Accepted.{known, nodeThere, rowThere, nodeTyped, rowTyped, noneOpen, nodeSuitsMark, rowSuitsMark}
+use Rattle.model.specs.Accepted.{known, nodeThere, rowThere, nodeTyped, rowTyped, misnested, nodeSuitsMark, rowSuitsMark}
 
 abbrev pub kindAt : Table → ℕ → ℕ
 kindAt t i = lineAt (t .words) i .kind
@@ -84,7 +81,7 @@ abbrev pub depthBy : Roles → (ℕ → ℕ) → Line → ℕ
 depthBy rs below l = 1 + max (operandDepth (rs .a) below (l .a)) (max (operandDepth (rs .b) below (l .b)) (operandDepth (rs .c) below (l .c)))
 
 unfoldable pub depth : Table → ℕ → ℕ
-depth t n = valueAt (λ m below. depthBy (nodeRoles (nodeKind (nodeAt t m .kind))) below (nodeAt t m)) 0 n
+depth t n = valueAt (λ j below. depthBy (nodeRoles (nodeKind (nodeAt t j .kind))) below (nodeAt t j)) 0 n
 
 -- 10: "depth above 12"
 abbrev pub mostDepth : ℕ
@@ -94,16 +91,8 @@ unfoldable pub breaks10 : Table → ℕ → Bool
 breaks10 t i = ofNodeOrRow (λ n. ltb mostDepth (depth t n)) (λ r. false) t i
 
 -- 11: "end with no open loop, loop never closed, loop inside eight" (R10)
-abbrev pub mostOpen : ℕ
-mostOpen = 8
-
-abbrev pub nestBreaks : Nest → List ℕ → Bool → Bool
-nestBreaks opens os unclosed = unclosed || leb mostOpen (length os)
-nestBreaks closes os unclosed = noneOpen os
-nestBreaks neither os unclosed = false
-
 unfoldable pub breaks11 : Table → ℕ → Bool
-breaks11 t i = ofNodeOrRow (λ n. false) (λ r. nestBreaks (nestAt t r) (openAt t r) (leb (t .rows) (matchingEnd t r))) t i
+breaks11 t i = ofNodeOrRow (λ n. false) (misnested t) t i
 
 -- 12: "row 33 to a marked uint"; of a reduced table "also a kind that the reduction would not give that variable" (R11)
 unfoldable pub breaks12 : MachineKind → Table → ℕ → Bool

@@ -16,14 +16,13 @@ ghost use mathlib.Core.Path.{_≡_};
 ghost use mathlib.Core.List.{[], _∷_};
 ghost use Prim.Native.Nat.{_+_, _*_, _/_, _%_, _<_, _≤_};
 ghost use lib.ListN.{length};
-ghost use Rattle.lists.specs.First.{first};
 ghost use Rattle.table.specs.Checks.{machineOf, breaks, firstRefusal};
-ghost use Rattle.table.specs.Code.{countsOf, tableBy, firstOf, Laid, There, Types, Depths};
+ghost use Rattle.table.specs.Code.{countsOf, tableBy, firstOf, InSorts, There, Types, Depths};
 
 // Whether a line breaks one of 5 to 8.
 fn line_breaks(check: u32, words: &[u32], counts: Counts, reduced: bool, line: usize) -> bool
     requires { ⌜ (5 ≤ check) × (check ≤ 8) × (counts .decls ≤ length (now words) / 4) × (counts .nodes ≤ length (now words) / 4) × (4 * line + 3 < length (now words)) ⌝ }
-    requires { ⌜ (check ≡ 8 → Laid (tableBy (now words) counts)) ⌝ }
+    requires { ⌜ (check ≡ 8 → InSorts (tableBy (now words) counts)) ⌝ }
     ensures { λ r. ⌜ r ≡ breaks check (machineOf reduced) (tableBy (now (words .entry)) counts) line ⌝ }
 {
     match check {
@@ -37,7 +36,7 @@ fn line_breaks(check: u32, words: &[u32], counts: Counts, reduced: bool, line: u
 // The first line that breaks one of 5 to 8.
 fn first_line(check: u32, words: &[u32], counts: Counts, reduced: bool) -> Found
     requires { ⌜ (5 ≤ check) × (check ≤ 8) × (counts .decls ≤ length (now words) / 4) × (counts .nodes ≤ length (now words) / 4) ⌝ }
-    requires { ⌜ (check ≡ 8 → Laid (tableBy (now words) counts)) ⌝ }
+    requires { ⌜ (check ≡ 8 → InSorts (tableBy (now words) counts)) ⌝ }
     ensures { λ r. ⌜ r ≡ firstOf check reduced (now (words .entry)) counts ⌝ }
 {
     let lines = words.len() / 4;
@@ -83,7 +82,7 @@ fn sense_breaks(
     line: usize,
 ) -> bool
     requires { ⌜ (9 ≤ check) × (check ≤ 12) × (check ≡ 11 → ⊥) × (4 * line + 3 < length (now words)) ⌝ }
-    requires { ⌜ Laid (tableBy (now words) counts) × There (tableBy (now words) counts) ⌝ }
+    requires { ⌜ InSorts (tableBy (now words) counts) × There (tableBy (now words) counts) ⌝ }
     requires { ⌜ Types (tableBy (now words) counts) (now types) (counts .nodes) × Depths (tableBy (now words) counts) (now depths) (counts .nodes) ⌝ }
     ensures { λ r. ⌜ r ≡ breaks check (machineOf reduced) (tableBy (now (words .entry)) counts) line ⌝ }
 {
@@ -104,7 +103,7 @@ fn first_sense(
     depths: &[u32],
 ) -> Found
     requires { ⌜ (9 ≤ check) × (check ≤ 12) × (check ≡ 11 → ⊥) ⌝ }
-    requires { ⌜ Laid (tableBy (now words) counts) × There (tableBy (now words) counts) ⌝ }
+    requires { ⌜ InSorts (tableBy (now words) counts) × There (tableBy (now words) counts) ⌝ }
     requires { ⌜ Types (tableBy (now words) counts) (now types) (counts .nodes) × Depths (tableBy (now words) counts) (now depths) (counts .nodes) ⌝ }
     ensures { λ r. ⌜ r ≡ firstOf check reduced (now (words .entry)) counts ⌝ }
 {
@@ -127,7 +126,7 @@ fn check_with(
     types: &[u32],
     depths: &[u32],
 ) -> Verdict
-    requires { ⌜ Laid (tableBy (now words) counts) × There (tableBy (now words) counts) ⌝ }
+    requires { ⌜ InSorts (tableBy (now words) counts) × There (tableBy (now words) counts) ⌝ }
     requires { ⌜ Types (tableBy (now words) counts) (now types) (counts .nodes) × Depths (tableBy (now words) counts) (now depths) (counts .nodes) ⌝ }
     ensures { λ r. ⌜ r ≡ firstRefusal (λ k. firstOf k reduced (now (words .entry)) counts) (9 ∷ 10 ∷ 11 ∷ 12 ∷ []) ⌝ }
 {
@@ -148,7 +147,7 @@ fn check_with(
 
 // Checks 9 to 12, of a table that passes 4 to 8.
 pub(crate) fn check_senses(words: &[u32], counts: Counts, reduced: bool) -> Verdict
-    requires { ⌜ Laid (tableBy (now words) counts) × There (tableBy (now words) counts) ⌝ }
+    requires { ⌜ InSorts (tableBy (now words) counts) × There (tableBy (now words) counts) ⌝ }
     ensures { λ r. ⌜ r ≡ firstRefusal (λ k. firstOf k reduced (now (words .entry)) counts) (9 ∷ 10 ∷ 11 ∷ 12 ∷ []) ⌝ }
 {
     let mut types = [0u32; 1024];

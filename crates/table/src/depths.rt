@@ -8,7 +8,7 @@ ghost use mathlib.Core.Path.{_≡_};
 ghost use Prim.Native.Nat.{ℕ, _+_, _*_, _<_, _≤_, max};
 ghost use lib.ListN.{length, getD};
 ghost use Rattle.table.specs.Rules.{depth, breaks10};
-ghost use Rattle.table.specs.Code.{tableBy, depthBelow, lineDepth, Laid, Depths};
+ghost use Rattle.table.specs.Code.{tableBy, depthBelow, lineDepth, InSorts, Depths};
 
 const A_NODE: u32 = 4;
 
@@ -51,7 +51,7 @@ fn line_depth(words: &[u32], depths: &[u32], line: usize, node: usize) -> u32
 
 // The depth of a node, those of all smaller nodes found first and kept.
 fn depth_of(words: &[u32], counts: Counts, depths: &mut [u32], node: usize) -> u32
-    requires { ⌜ Laid (tableBy (now words) counts) ⌝ }
+    requires { ⌜ InSorts (tableBy (now words) counts) ⌝ }
     requires { ⌜ (length (now depths) ≡ 1024) × (node < counts .nodes) ⌝ }
     ensures { λ r. ⌜ r ≡ depth (tableBy (now (words .entry)) counts) node ⌝ }
     ensures { λ _. ⌜ (length (now (depths .exit)) ≡ 1024) × Depths (tableBy (now (words .entry)) counts) (now (depths .exit)) (node + 1) ⌝ }
@@ -64,7 +64,7 @@ fn depth_of(words: &[u32], counts: Counts, depths: &mut [u32], node: usize) -> u
 
 // The depths of the nodes below a node are kept.
 pub(crate) fn depths_below(words: &[u32], counts: Counts, depths: &mut [u32], node: usize)
-    requires { ⌜ Laid (tableBy (now words) counts) ⌝ }
+    requires { ⌜ InSorts (tableBy (now words) counts) ⌝ }
     requires { ⌜ (length (now depths) ≡ 1024) × (node ≤ counts .nodes) ⌝ }
     ensures { λ _. ⌜ (length (now (depths .exit)) ≡ 1024) × Depths (tableBy (now (words .entry)) counts) (now (depths .exit)) node ⌝ }
 {
@@ -76,7 +76,7 @@ pub(crate) fn depths_below(words: &[u32], counts: Counts, depths: &mut [u32], no
 
 // 10
 pub(crate) fn breaks_10(words: &[u32], counts: Counts, depths: &[u32], line: usize) -> bool
-    requires { ⌜ Laid (tableBy (now words) counts) ⌝ }
+    requires { ⌜ InSorts (tableBy (now words) counts) ⌝ }
     requires { ⌜ Depths (tableBy (now words) counts) (now depths) (counts .nodes) ⌝ }
     requires { ⌜ 4 * line + 3 < length (now words) ⌝ }
     ensures { λ r. ⌜ r ≡ breaks10 (tableBy (now (words .entry)) counts) line ⌝ }

@@ -14,7 +14,7 @@ ghost use Rattle.model.specs.Table.{lineAt};
 ghost use Rattle.model.specs.Accepted.{allThere};
 ghost use Rattle.table.specs.Rules.{rolesOf, breaks5, breaks6, breaks7, breaks8};
 ghost use Rattle.table.specs.Checks.{machineOf};
-ghost use Rattle.table.specs.Code.{tableBy, Laid};
+ghost use Rattle.table.specs.Code.{tableBy, InSorts};
 
 // The line before; line 0 is its own.
 fn before(line: usize) -> usize
@@ -74,7 +74,7 @@ fn line_there(words: &[u32], line: usize, vars: usize, bound: usize) -> bool
 
 // 8: a variable or node that is not there; a node's own operands are smaller.
 pub(crate) fn breaks_8(words: &[u32], counts: Counts, line: usize) -> bool
-    requires { ⌜ Laid (tableBy (now words) counts) ⌝ }
+    requires { ⌜ InSorts (tableBy (now words) counts) ⌝ }
     requires { ⌜ 4 * line + 3 < length (now words) ⌝ }
     ensures { λ r. ⌜ r ≡ breaks8 (tableBy (now (words .entry)) counts) line ⌝ }
 {

@@ -9,7 +9,7 @@ ghost use lib.Dec.{leb};
 ghost use Rattle.lists.specs.First.{first};
 ghost use Rattle.model.specs.Table.{matchingEnd};
 ghost use Rattle.table.specs.Rules.{breaks11};
-ghost use Rattle.table.specs.Code.{tableBy, openAfter, unnested, Laid};
+ghost use Rattle.table.specs.Code.{tableBy, openAfter, unnested, InSorts};
 
 const OPENS: u32 = 1;
 
@@ -73,7 +73,7 @@ fn row_breaks(words: &[u32], counts: Counts, nest: u32, count: usize, row: usize
 
 // 11: the first row that breaks it, the open loops counted on the way.
 pub(crate) fn first_unnested(words: &[u32], counts: Counts) -> Found
-    requires { ⌜ Laid (tableBy (now words) counts) ⌝ }
+    requires { ⌜ InSorts (tableBy (now words) counts) ⌝ }
     ensures { λ r. ⌜ r ≡ first (breaks11 (tableBy (now (words .entry)) counts)) 0 (length (now (words .entry)) / 4) ⌝ }
 {
     let mut count: usize = 0;

@@ -9,7 +9,7 @@ ghost use lib.ListN.{length};
 ghost use Rattle.model.specs.Table.{marked};
 ghost use Rattle.table.specs.Rules.{breaks12};
 ghost use Rattle.table.specs.Checks.{machineOf};
-ghost use Rattle.table.specs.Code.{tableBy, lineSuits, Laid};
+ghost use Rattle.table.specs.Code.{tableBy, lineSuits, InSorts};
 
 const UINT: u32 = 2;
 
@@ -38,7 +38,7 @@ fn line_suits(words: &[u32], reduced: bool, line: usize) -> bool
 
 // 12
 pub(crate) fn breaks_12(words: &[u32], counts: Counts, reduced: bool, line: usize) -> bool
-    requires { ⌜ Laid (tableBy (now words) counts) ⌝ }
+    requires { ⌜ InSorts (tableBy (now words) counts) ⌝ }
     requires { ⌜ 4 * line + 3 < length (now words) ⌝ }
     ensures { λ r. ⌜ r ≡ breaks12 (machineOf reduced) (tableBy (now (words .entry)) counts) line ⌝ }
 {

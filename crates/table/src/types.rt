@@ -11,7 +11,7 @@ ghost use lib.ListN.{length, getD};
 ghost use Rattle.model.specs.Table.{typeOf};
 ghost use Rattle.model.specs.Accepted.{tyNumber};
 ghost use Rattle.table.specs.Rules.{breaks9};
-ghost use Rattle.table.specs.Code.{tableBy, typeBelow, variableType, lineType, lineTyped, Laid, There, Types};
+ghost use Rattle.table.specs.Code.{tableBy, typeBelow, variableType, lineType, lineTyped, InSorts, There, Types};
 
 fn type_number(kind: u32) -> u32
     ensures { λ r. ⌜ r ≡ tyNumber (typeOf kind) ⌝ }
@@ -58,7 +58,7 @@ fn line_type(words: &[u32], types: &[u32], line: usize, node: usize) -> u32
 
 // The types of all nodes, in rising order.
 pub(crate) fn fill_types(words: &[u32], counts: Counts, types: &mut [u32])
-    requires { ⌜ Laid (tableBy (now words) counts) ⌝ }
+    requires { ⌜ InSorts (tableBy (now words) counts) ⌝ }
     requires { ⌜ length (now types) ≡ 1024 ⌝ }
     ensures { λ _. ⌜ Types (tableBy (now (words .entry)) counts) (now (types .exit)) (counts .nodes) ⌝ }
 {
@@ -93,7 +93,7 @@ fn kept_type(types: &[u32], x: u32) -> u32
 
 // 9
 pub(crate) fn breaks_9(words: &[u32], counts: Counts, types: &[u32], line: usize) -> bool
-    requires { ⌜ Laid (tableBy (now words) counts) ⌝ }
+    requires { ⌜ InSorts (tableBy (now words) counts) ⌝ }
     requires { ⌜ There (tableBy (now words) counts) ⌝ }
     requires { ⌜ Types (tableBy (now words) counts) (now types) (counts .nodes) ⌝ }
     requires { ⌜ 4 * line + 3 < length (now words) ⌝ }

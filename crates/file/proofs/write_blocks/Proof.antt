@@ -6,7 +6,7 @@ use mathlib.Core.Path.{_≡_, sym}
 use lib.ListN.{length, take}
 use Rattle.lists.specs.Tab.{tab}
 use Rattle.lists.proofs.TabLaws.{length-tab, tab-none}
-use Rattle.file.specs.Layout.{blocksFor, lines, fileByte, fileBytes}
+use Rattle.file.specs.Layout.{blocksFor, linesIn, fileByte, fileBytes}
 use Rattle.file.proofs.LayoutLaws.{length-file}
 use Rattle.file.proofs.write_blocks.Statement.{statement}
 use Rattle.file.proofs.write_blocks.Tie as tie
@@ -40,7 +40,7 @@ unfolding fileBytes
 returns c =
     let head = c .before .before .before .before .before .loop in
     let ws = c .before .before .before .before .before .before .before .before .args .ws .now in
-    let end : head .k ≡ blocksFor (lines ws) = omega arith in
+    let end : head .k ≡ blocksFor (linesIn ws) = omega arith in
     (sym (length-file ws), rw (c .before .before .zero-bytes .ensures, head .inv .1, rw end at (head .inv .2)))
 
 pub write-blocks-spec : {M : Type 1} → statement M

@@ -1,6 +1,6 @@
 -- A table that is refused is not written.
 -- Assumes nothing.
-use mathlib.Core.Path.{_≡_, sym, _∙_}
+use mathlib.Core.Path.{sym, _∙_}
 use borrow.Author.Needs.{needs}
 use Rattle.file.proofs.WritingLaws.{by-table}
 use Rattle.file.proofs.write_file.Statement.{statement}

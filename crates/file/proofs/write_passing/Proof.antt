@@ -1,7 +1,6 @@
 -- A buffer of another size is refused; else the blocks are written.
 -- Assumes nothing.
 use borrow.Author.Needs.{needs}
-use native.Mathlib.Omega.{arith}
 use Rattle.file.proofs.RoundTrips.{passing-short}
 use Rattle.file.proofs.WritingLaws.{by-size, done}
 use Rattle.file.proofs.write_passing.Statement.{statement}

@@ -1,28 +1,26 @@
 -- The checks are made in the definition's order, and the lent table is written only after all of them.
 -- Assumes nothing.
 use borrow.Author.Needs.{needs}
-use mathlib.Core.Path.{_≡_}
-use native.Mathlib.Omega.{arith}
 use Rattle.reduction.proofs.ReductionLaws.{by-table, by-pair, by-size, reduced}
 use Rattle.reduction.proofs.reduce_table.Statement.{statement}
 use Rattle.reduction.proofs.reduce_table.Tie as tie
 
 returns : tie.Need-returns
-returns c = by-table _ _ _ _ _ (c .before .before .check-table .ensures) (c .enum-told2 .given .1)
+returns c = by-table _ _ _ _ (c .before .before .check-table .ensures) (c .enum-told2 .given .1)
 
 returns-2 : tie.Need-returns-2
 returns-2 c =
-    by-pair _ _ _ _ (c .before .before .before .before .before .check-table .ensures) (c .before .before .before .enum-told .given .1)
+    by-pair _ _ _ (c .before .before .before .before .before .check-table .ensures) (c .before .before .before .enum-told .given .1)
     _ (c .before .before .check-pair .ensures) (c .enum-told4 .given .1)
 
 returns-3 : tie.Need-returns-3
 returns-3 c =
-    by-size _ _ _ _ (c .before .before .before .before .before .before .check-table .ensures) (c .before .before .before .before .enum-told .given .1)
+    by-size _ _ _ (c .before .before .before .before .before .before .check-table .ensures) (c .before .before .before .before .enum-told .given .1)
     (c .before .before .before .check-pair .ensures) (c .before .enum-told3 .given .1) (c .if1 .taken)
 
 returns-4 : tie.Need-returns-4
 returns-4 c =
-    reduced _ _ _ _ (c .before .before .before .before .before .before .before .before .before .before .check-table .ensures) (c .before .before .before .before .before .before .before .before .enum-told .given .1)
+    reduced _ _ _ (c .before .before .before .before .before .before .before .before .before .before .check-table .ensures) (c .before .before .before .before .before .before .before .before .enum-told .given .1)
     (c .before .before .before .before .before .before .before .check-pair .ensures) (c .before .before .before .before .before .enum-told3 .given .1)
     (c .before .before .before .before .if1 .left) _ (c .before .before .reduce-words .ensures)
 

@@ -5,7 +5,7 @@ use native.Mathlib.Omega.{arith}
 use mathlib.Core.Path.{_≡_, refl, ap, _∙_}
 use mathlib.Core.Logic.{⊎-elim}
 use lib.ListN.{length, length-replicate, length-set}
-use Rattle.recording.specs.Records.{heldOf}
+use Rattle.recording.specs.CodeRecords.{heldOf}
 use Rattle.runs.proofs.ReadyLaws.{within}
 use Rattle.choices.proofs.WriteLaws.{Left, left-all, left-done, left-out, left-full, left-stop, left-again, held-set, held-kept, few-numbers, counted, stuck-never}
 use borrow.Author.Needs.{needs}

@@ -6,14 +6,14 @@ use native.Mathlib.Omega.{arith}
 use mathlib.Core.Path.{_≡_, refl, sym, _∙_}
 use Rattle.lists.specs.Tab as tab
 use Rattle.lists.proofs.TabLaws.{sum-more}
-use Rattle.file.specs.Layout.{plainWord, fileByte}
+use Rattle.file.specs.Layout.{bodyWord, fileByte}
 use Rattle.file.proofs.LayoutLaws.{word-plain, word-check, put-file}
 use Rattle.file.proofs.blocks.put_block.Statement.{statement}
 use Rattle.file.proofs.blocks.put_block.Tie as tie
 
 abbrev Inv-loop : tie.InvT-loop
 Inv-loop ws out₀ k sum₀ r₀ out sum r =
-    (r ≤ 127) × (length out ≡ 22016) × (sum ≡ tab.sum r (plainWord ws k) % 2 ^ 32) × (take (512 * k + 4 * r) out ≡ tab.tab (512 * k + 4 * r) (fileByte ws))
+    (r ≤ 127) × (length out ≡ 22016) × (sum ≡ tab.sum r (bodyWord ws k) % 2 ^ 32) × (take (512 * k + 4 * r) out ≡ tab.tab (512 * k + 4 * r) (fileByte ws))
 
 abbrev μ-loop : tie.MeasureT-loop
 μ-loop ws out₀ k sum₀ r₀ out sum r = 127 - r
@@ -29,10 +29,10 @@ loop-again c =
     let head = c .before .before .before .before .before .before .before .loop in
     let a = c .before .before .before .before .before .before .before .before .before .before .args in
     let put = c .before .before .before .put-word .ensures in
-    let w = c .before .before .before .before .before .plain-word in (
+    let w = c .before .before .before .before .before .body-word in (
       search needs,
       rw put (simp length-set (head .inv .1)),
-      omega (arith, sum-more (plainWord (a .ws .now) (a .k)) (head .r)),
+      omega (arith, sum-more (bodyWord (a .ws .now) (a .k)) (head .r)),
       rw put (put-file _ _ _ _ _ (omega arith) (omega arith) (head .inv .3) (w .ensures ∙ sym (word-plain _ _ _ (omega arith)))),
     )
 

@@ -4,7 +4,7 @@ use native.Mathlib.Omega.{arith}
 use Prim.Native.Nat.{ℕ, _<_}
 use mathlib.Core.Path.{sym, _∙_, refl}
 use lib.ListN.{length}
-use Rattle.machine.specs.Rows.{Still}
+use Rattle.machine.specs.CodeRows.{Still}
 use Rattle.machine.proofs.LoopLaws.{enter-in, enter-out, enter-lost, enter-off, near-at}
 use Rattle.machine.proofs.MoveLaws.{fits-below}
 use borrow.Author.Needs.{length-unmapped, needs}

@@ -7,7 +7,7 @@ use mathlib.Core.Path.{_≡_, refl}
 use lib.ListN.{length, take, length-set}
 use Rattle.lists.specs.Tab.{tab}
 use Rattle.lists.proofs.TabLaws.{tab-more}
-use Rattle.machine.specs.Fresh.{startNumber}
+use Rattle.machine.specs.CodeFresh.{startNumber}
 use Rattle.machine.proofs.FreshLaws.{fresh-vars}
 use Rattle.machine.proofs.Machine.fresh.Statement.{statement}
 use Rattle.machine.proofs.Machine.fresh.Tie as tie

@@ -2,7 +2,7 @@
 -- Assumes nothing.
 use mathlib.Core.Path.{sym, _∙_}
 use Rattle.machine.proofs.MoveLaws.{fits-below}
-use Rattle.machine.specs.Moves.{putIn}
+use Rattle.machine.specs.CodeMoves.{putIn}
 use borrow.Author.Needs.{needs}
 use Rattle.machine.proofs.Machine.put.Statement.{statement}
 use Rattle.machine.proofs.Machine.put.Tie as tie

@@ -4,7 +4,7 @@ use native.Mathlib.Omega.{arith}
 use Prim.Native.Nat.{suc, _<_, _-_}
 use mathlib.Core.Bool.{true, false}
 use mathlib.Core.Path.{_≡_, refl}
-use Rattle.machine.specs.Rows.{Still}
+use Rattle.machine.specs.CodeRows.{Still}
 use Rattle.machine.proofs.LoopLaws.{repeat-none, repeat-ends, repeat-loop, repeat-other, row-there, kind-38, kind-42}
 use Rattle.machine.proofs.MoveLaws.{still}
 use borrow.Author.Needs.{needs}

@@ -1,7 +1,7 @@
 -- The row goes on.
 -- Assumes nothing.
 use native.Mathlib.Numerals.{add-one}
-use Rattle.machine.specs.Rows.{Still}
+use Rattle.machine.specs.CodeRows.{Still}
 use Rattle.machine.proofs.MoveLaws.{skips}
 use borrow.Author.Needs.{needs}
 use Rattle.machine.proofs.Machine.skip.Statement.{statement}

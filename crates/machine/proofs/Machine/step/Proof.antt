@@ -6,7 +6,7 @@ use mathlib.Core.Bool.{true, false}
 use mathlib.Core.Path.{refl}
 use Rattle.model.specs.Table.Row.{skip, assign, assert, assume, array, loop, loopEnd, reducedArray, classLoop}
 use Rattle.machine.proofs.StepLaws.{unmoved, step-by, step-store, step-reduced, step-none, step-opens, row-32, row-33, row-34, row-35, row-36, row-37, row-38, row-39, row-40, row-41, row-42}
-use Rattle.machine.specs.Rows.{Still}
+use Rattle.machine.specs.CodeRows.{Still}
 use borrow.Author.Needs.{needs}
 use Rattle.machine.proofs.Machine.step.Statement.{statement}
 use Rattle.machine.proofs.Machine.step.Tie as tie

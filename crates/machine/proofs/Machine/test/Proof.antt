@@ -2,7 +2,7 @@
 -- Assumes nothing.
 use native.Mathlib.Numerals.{add-one}
 use mathlib.Core.Path.{refl}
-use Rattle.machine.specs.Rows.{Still}
+use Rattle.machine.specs.CodeRows.{Still}
 use Rattle.machine.proofs.MoveLaws.{still, test-ends, test-holds, test-false}
 use borrow.Author.Needs.{needs}
 use Rattle.machine.proofs.Machine.test.Statement.{statement}

@@ -2,7 +2,7 @@
 -- Assumes nothing.
 use mathlib.Core.Bool.{true}
 use native.Mathlib.Numerals.{add-one}
-use Rattle.machine.specs.Rows.{Still}
+use Rattle.machine.specs.CodeRows.{Still}
 use Rattle.machine.proofs.RowLaws.{unmoved, row-stops, row-goes}
 use borrow.Author.Needs.{needs}
 use Rattle.machine.proofs.Machine.write_reduced.Statement.{statement}

@@ -1,7 +1,7 @@
 -- Each test is the definition at its kind.
 -- Assumes nothing.
 use borrow.Author.Tests.{ne-eqb}
-use Rattle.machine.specs.View.{outOf}
+use Rattle.machine.specs.CodeAnswers.{outOf}
 use Rattle.machine.proofs.answers.compared.Statement.{statement}
 use Rattle.machine.proofs.answers.compared.Tie as tie
 

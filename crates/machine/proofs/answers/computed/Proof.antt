@@ -3,8 +3,8 @@
 use native.Mathlib.Omega.{arith}
 use Prim.Native.Nat.{_+_, _≤_, _<_}
 use borrow.Author.Tests.{le-leb, lt-leb}
-use Rattle.machine.specs.View.{outOf}
-use Rattle.machine.specs.Leaves.{arith as arithOf}
+use Rattle.machine.specs.CodeAnswers.{outOf}
+use Rattle.machine.specs.CodeLeaves.{arith as arithOf}
 use borrow.Author.Needs.{needs}
 use Rattle.machine.proofs.answers.computed.Statement.{statement}
 use Rattle.machine.proofs.answers.computed.Tie as tie

@@ -2,8 +2,8 @@
 -- Assumes nothing.
 use lib.ListN.{drop}
 use borrow.Author.Tests.{lt-ltb, le-ltb}
-use Rattle.machine.specs.View.{outOf}
-use Rattle.machine.specs.Leaves.{targetOut, loadOf}
+use Rattle.machine.specs.CodeAnswers.{outOf}
+use Rattle.machine.specs.CodeLeaves.{targetOut, loadOf}
 use borrow.Author.Needs.{needs}
 use Rattle.machine.proofs.arrays.cell.Statement.{statement}
 use Rattle.machine.proofs.arrays.cell.Tie as tie

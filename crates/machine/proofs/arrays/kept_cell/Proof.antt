@@ -3,7 +3,7 @@
 use mathlib.Core.Path.{sym, ap, _∙_}
 use lib.ListN.{drop}
 use Rattle.machine.specs.View.{places}
-use Rattle.machine.specs.Leaves.{readOf, storedIn, trackedIn}
+use Rattle.machine.specs.CodeLeaves.{readOf, storedIn, trackedIn}
 use Rattle.machine.proofs.ViewLaws.{read-plain}
 use borrow.Author.Needs.{needs}
 use Rattle.machine.proofs.arrays.kept_cell.Statement.{statement}

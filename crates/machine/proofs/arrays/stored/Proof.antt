@@ -1,8 +1,8 @@
 -- Each answer is the branch of the definition that its tests choose.
 -- Assumes nothing.
 use borrow.Author.Tests.{lt-ltb, le-ltb}
-use Rattle.machine.specs.View.{outOf}
-use Rattle.machine.specs.Leaves.{storedIn}
+use Rattle.machine.specs.CodeAnswers.{outOf}
+use Rattle.machine.specs.CodeLeaves.{storedIn}
 use borrow.Author.Needs.{needs}
 use Rattle.machine.proofs.arrays.stored.Statement.{statement}
 use Rattle.machine.proofs.arrays.stored.Tie as tie

@@ -1,6 +1,6 @@
 -- A tracked place reads the cell of its class, any other takes a choice.
 -- Assumes nothing.
-use Rattle.machine.specs.Leaves.{trackedIn}
+use Rattle.machine.specs.CodeLeaves.{trackedIn}
 use borrow.Author.Needs.{needs}
 use Rattle.machine.proofs.arrays.tracked_cell.Statement.{statement}
 use Rattle.machine.proofs.arrays.tracked_cell.Tie as tie

@@ -1,8 +1,8 @@
 -- By the array that the pointer points to.
 -- Assumes nothing.
 use lib.ListN.{drop}
-use Rattle.machine.specs.View.{outOf}
-use Rattle.machine.specs.Leaves.{targetOut}
+use Rattle.machine.specs.CodeAnswers.{outOf}
+use Rattle.machine.specs.CodeLeaves.{targetOut}
 use Rattle.machine.proofs.ViewLaws.{valid-some, valid-none}
 use borrow.Author.Needs.{needs}
 use Rattle.machine.proofs.arrays.valid.Statement.{statement}

@@ -5,11 +5,11 @@ use mathlib.Core.Path.{_≡_, sym}
 use mathlib.Core.List.{List}
 use Prim.Native.Nat.{ℕ}
 use lib.ListN.{drop}
+use Rattle.machine.specs.CodeAnswers.{leftOf}
 use Rattle.reader.specs.declared.Choice.{Choice}
 use Rattle.reader.specs.declared.Choice.the-variants.{Is, NoneLeft}
 use Rattle.reader.specs.Choose.{choiceAt}
 use Rattle.reader.proofs.ReaderLaws.{choice-left, none-left}
-use Rattle.machine.specs.View.{leftOf}
 use Rattle.machine.proofs.choices.choice_at.Statement.{statement}
 use Rattle.machine.proofs.choices.choice_at.Tie as tie
 

@@ -1,7 +1,7 @@
 -- By what the variable holds.
 -- Assumes nothing.
 use borrow.Author.Needs.{needs}
-use Rattle.machine.specs.Fresh.{startNumber}
+use Rattle.machine.specs.CodeFresh.{startNumber}
 use Rattle.machine.proofs.fresh.start_number.Statement.{statement}
 use Rattle.machine.proofs.fresh.start_number.Tie as tie
 

@@ -2,7 +2,7 @@
 -- Assumes nothing.
 use mathlib.Core.Path.{sym, ap}
 use Rattle.machine.proofs.LoopLaws.{other-bounds}
-use Rattle.machine.specs.Loops.{boundsEnd}
+use Rattle.machine.specs.CodeLoops.{boundsEnd}
 use borrow.Author.Needs.{needs}
 use Rattle.machine.proofs.loops.bounds_end.Statement.{statement}
 use Rattle.machine.proofs.loops.bounds_end.Tie as tie

@@ -2,7 +2,7 @@
 -- Assumes nothing.
 use Rattle.machine.proofs.LoopLaws.{bounds-first, bounds-second, bounds-both}
 use Rattle.machine.specs.View.{places}
-use Rattle.machine.specs.Loops.{inClassOf}
+use Rattle.machine.specs.CodeLoops.{inClassOf}
 use borrow.Author.Needs.{needs}
 use Rattle.machine.proofs.loops.bounds_in.Statement.{statement}
 use Rattle.machine.proofs.loops.bounds_in.Tie as tie

@@ -1,7 +1,7 @@
 -- By the bounds.
 -- Assumes nothing.
 use mathlib.Core.Path.{sym, ap}
-use Rattle.machine.specs.Loops.{endedBounds}
+use Rattle.machine.specs.CodeLoops.{endedBounds}
 use borrow.Author.Needs.{needs}
 use Rattle.machine.proofs.loops.ended_bounds.Statement.{statement}
 use Rattle.machine.proofs.loops.ended_bounds.Tie as tie

@@ -4,7 +4,7 @@ use Prim.Native.Nat.{ℕ, _≤_, _*_, _-_}
 use native.Mathlib.Omega.{arith}
 use mathlib.Core.Path.{_≡_, refl, _∙_, ap}
 use Rattle.machine.specs.View.{places}
-use Rattle.machine.specs.News.{usedIn}
+use Rattle.machine.specs.CodeNews.{usedIn}
 use Rattle.machine.proofs.NewLaws.{used-none, used-more}
 use borrow.Author.Needs.{needs}
 use Rattle.machine.proofs.news.used_in.Statement.{statement}

@@ -1,6 +1,6 @@
 -- The four words of the line, taken apart.
 -- Assumes nothing.
-use Rattle.machine.specs.Leaves.{nodeIn}
+use Rattle.machine.specs.CodeLeaves.{nodeIn}
 use borrow.Author.Needs.{needs}
 use Rattle.machine.proofs.nodes.node_at.Statement.{statement}
 use Rattle.machine.proofs.nodes.node_at.Tie as tie

@@ -2,7 +2,7 @@
 -- Assumes nothing.
 use mathlib.Core.Path.{sym, ap}
 use Rattle.machine.proofs.MoveLaws.{other-end}
-use Rattle.machine.specs.Moves.{endedOf}
+use Rattle.machine.specs.CodeMoves.{endedOf}
 use borrow.Author.Needs.{needs}
 use Rattle.machine.proofs.rows.ended.Statement.{statement}
 use Rattle.machine.proofs.rows.ended.Tie as tie

@@ -1,7 +1,7 @@
 -- Only a variable that holds a class has one to choose in.
 -- Assumes nothing.
 use mathlib.Core.Path.{sym, _∙_}
-use Rattle.machine.specs.View.{outOf}
+use Rattle.machine.specs.CodeAnswers.{outOf}
 use Rattle.machine.proofs.ViewLaws.{class-out, class-held, class-none}
 use borrow.Author.Needs.{needs}
 use Rattle.machine.proofs.variables.class_choice.Statement.{statement}

@@ -1,8 +1,8 @@
 -- By the array that the pointer points to.
 -- Assumes nothing.
 use lib.ListN.{drop}
-use Rattle.machine.specs.Leaves.{targetOut}
-use Rattle.machine.specs.Rows.{spotOut, aimOf}
+use Rattle.machine.specs.CodeLeaves.{targetOut}
+use Rattle.machine.specs.CodeRows.{spotOut, aimOf}
 use borrow.Author.Needs.{needs}
 use Rattle.machine.proofs.writes.aimed.Statement.{statement}
 use Rattle.machine.proofs.writes.aimed.Tie as tie

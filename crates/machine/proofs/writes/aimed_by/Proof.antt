@@ -1,6 +1,6 @@
 -- By which of the two rows it is.
 -- Assumes nothing.
-use Rattle.machine.specs.Rows.{aimBy}
+use Rattle.machine.specs.CodeRows.{aimBy}
 use borrow.Author.Needs.{needs}
 use Rattle.machine.proofs.writes.aimed_by.Statement.{statement}
 use Rattle.machine.proofs.writes.aimed_by.Tie as tie

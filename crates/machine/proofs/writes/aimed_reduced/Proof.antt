@@ -1,8 +1,8 @@
 -- By the array that the pointer points to, and the place chosen.
 -- Assumes nothing.
 use lib.ListN.{drop}
-use Rattle.machine.specs.Leaves.{targetOut}
-use Rattle.machine.specs.Rows.{spotOut, aimReduced}
+use Rattle.machine.specs.CodeLeaves.{targetOut}
+use Rattle.machine.specs.CodeRows.{spotOut, aimReduced}
 use Rattle.machine.proofs.RowLaws.{spot-else, spot-then}
 use borrow.Author.Needs.{needs}
 use Rattle.machine.proofs.writes.aimed_reduced.Statement.{statement}

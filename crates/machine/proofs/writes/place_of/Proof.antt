@@ -1,7 +1,7 @@
 -- A reduced array takes a choice, a plain one the place itself.
 -- Assumes nothing.
-use Rattle.machine.specs.View.{outOf}
-use Rattle.machine.specs.Rows.{placeOf}
+use Rattle.machine.specs.CodeAnswers.{outOf}
+use Rattle.machine.specs.CodeRows.{placeOf}
 use borrow.Author.Needs.{needs}
 use Rattle.machine.proofs.writes.place_of.Statement.{statement}
 use Rattle.machine.proofs.writes.place_of.Tie as tie

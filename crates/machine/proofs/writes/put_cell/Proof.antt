@@ -2,7 +2,7 @@
 -- Assumes nothing.
 use mathlib.Core.Path.{refl}
 use borrow.Author.Tests.{lt-ltb, le-ltb}
-use Rattle.machine.specs.Rows.{outcomeOut, Still, spotOut}
+use Rattle.machine.specs.CodeRows.{outcomeOut, Still, spotOut}
 use borrow.Author.Needs.{needs}
 use Rattle.machine.proofs.writes.put_cell.Statement.{statement}
 use Rattle.machine.proofs.writes.put_cell.Tie as tie

@@ -1,7 +1,7 @@
 -- A place below the length, and one of the array's own cells.
 -- Assumes nothing.
 use borrow.Author.Tests.{lt-ltb, le-ltb}
-use Rattle.machine.specs.Rows.{spotOut, spotAt}
+use Rattle.machine.specs.CodeRows.{spotOut, spotAt}
 use borrow.Author.Needs.{needs}
 use Rattle.machine.proofs.writes.spot_at.Statement.{statement}
 use Rattle.machine.proofs.writes.spot_at.Tie as tie

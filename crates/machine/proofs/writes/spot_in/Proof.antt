@@ -1,7 +1,7 @@
 -- Each answer is the branch of the definition that its test chooses.
 -- Assumes nothing.
 use borrow.Author.Tests.{lt-ltb, le-ltb}
-use Rattle.machine.specs.Rows.{spotOut, spotIn}
+use Rattle.machine.specs.CodeRows.{spotOut, spotIn}
 use borrow.Author.Needs.{needs}
 use Rattle.machine.proofs.writes.spot_in.Statement.{statement}
 use Rattle.machine.proofs.writes.spot_in.Tie as tie

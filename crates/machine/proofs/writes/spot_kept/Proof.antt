@@ -1,7 +1,7 @@
 -- By the length, the array's shape and whether the place is tracked.
 -- Assumes nothing.
 use borrow.Author.Tests.{lt-ltb, le-ltb}
-use Rattle.machine.specs.Rows.{spotOut, spotKept}
+use Rattle.machine.specs.CodeRows.{spotOut, spotKept}
 use borrow.Author.Needs.{needs}
 use Rattle.machine.proofs.writes.spot_kept.Statement.{statement}
 use Rattle.machine.proofs.writes.spot_kept.Tie as tie

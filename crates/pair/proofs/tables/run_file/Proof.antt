@@ -2,6 +2,7 @@
 -- Assumes nothing.
 use native.Mathlib.Omega.{arith}
 use lib.ListN.{length-take}
+use Rattle.model.specs.Class.{pair}
 use Rattle.pair.proofs.InputLaws.{file-refused, file-read, lines-fit}
 use borrow.Author.Needs.{needs}
 use Rattle.pair.proofs.tables.run_file.Statement.{statement}
@@ -45,11 +46,11 @@ run-table-requires c κs = let k = c .before .before .before .before .before .re
 
 returns : tie.Need-returns
 returns c = let g = c .before .before .before .before .before .before .before .before .args in let k = c .before .before .before .before .before .read-file .ensures in
-    file-refused (g .file .now) _ (c .before .before .before .before .before .read-file .result) (k .0) (k .1) (g .c1) (g .c2) (g .limit) (c .refused .result) (c .before .before .found .given .1) (c .refused .ensures)
+    file-refused (g .file .now) _ (c .before .before .before .before .before .read-file .result) (k .0) (k .1) (pair (g .c1) (g .c2)) (g .limit) (c .refused .result) (c .before .before .found .given .1) (c .refused .ensures)
 
 returns-2 : tie.Need-returns-2
 returns-2 c = let g = c .before .before .before .before .before .before .before .before .before .args in let k = c .before .before .before .before .before .before .read-file .ensures in
-    file-read (g .file .now) _ (c .before .before .before .before .before .before .read-file .result) (k .0) (k .1) (g .c1) (g .c2) (g .limit) (c .run-table .result) (c .before .before .before .found2 .given .1) (c .run-table .ensures)
+    file-read (g .file .now) _ (c .before .before .before .before .before .before .read-file .result) (k .0) (k .1) (pair (g .c1) (g .c2)) (g .limit) (c .run-table .result) (c .before .before .before .found2 .given .1) (c .run-table .ensures)
 
 pub run-file-spec : {M : Type 1} → statement M
 run-file-spec =

@@ -46,7 +46,7 @@ slice-aggregate-pair-line c = let g = c .before .before .before .before .before 
 pair-line-requires : tie.Need-pair-line-requires
 pair-line-requires c κs = let g = c .before .before .before .before .before .before .before .before .before .before .before .args in let w = c .before .before .before .before .before .before .before .write-choices in
     let P = passed (g .t .now) (g .c1) (g .c2) (g .limit) _ _ _ _ (w .result) (w .ensures) refl refl (c .before .before .before .enum-told .given .1) in
-    (P .table, P .pair, c .before .before .before .before .before .before .before .before .before .before .before .pre)
+    (P .table, P .places, c .before .before .before .before .before .before .before .before .before .before .before .pre)
 
 returns-2 : tie.Need-returns-2
 returns-2 c = let g = c .before .before .before .before .before .before .before .before .before .before .before .before .args in let w = c .before .before .before .before .before .before .before .before .write-choices in

@@ -1,7 +1,5 @@
 -- A line's first word is its kind; the others stay.
-use mathlib.Core.Path.{_≡_, sym, _∙_}
 use borrow.Author.Needs.{needs}
-use borrow.Author.Tests.{eq-eqb, ne-eqb}
 use Rattle.lists.proofs.Flags.{flags}
 use Rattle.reduction.proofs.words.reduced_word.Statement.{statement}
 use Rattle.reduction.proofs.words.reduced_word.Tie as tie

@@ -1,6 +1,5 @@
 -- By the verdict of the checks, and by whether 15 refuses the record.
 -- Assumes nothing.
-use native.Mathlib.Omega.{arith}
 use mathlib.Core.Path.{refl, sym, _∙_}
 use Rattle.runs.proofs.LendLaws.{lends, laid, continues}
 use Rattle.runs.proofs.SaidLaws.{continued-refused, continued-ran, continued-broken}
@@ -30,10 +29,10 @@ frame-of-requires : tie.Need-frame-of-requires
 frame-of-requires c κs = search needs
 
 record-fits-requires : tie.Need-record-fits-requires
-record-fits-requires c κs = let g = c .before .before .before .before .before .before .before .before .before .args in laid (g .t .now) _ (g .cells .now) (lends (g .t .now) (g .cells .now) (g .classes) (g .c1) (g .c2) _ (c .before .before .before .before .check-run .ensures) (c .before .before .enum-told .given .1) _ (c .before .frame-of .ensures))
+record-fits-requires c κs = let g = c .before .before .before .before .before .before .before .before .before .args in laid (g .t .now) _ (g .cells .now) (lends (g .t .now) (g .cells .now) (g .classes) (g .c1) (g .c2) (c .before .before .before .before .check-run .ensures) (c .before .before .enum-told .given .1) (c .before .frame-of .ensures))
 
 run-from-requires : tie.Need-run-from-requires
-run-from-requires c κs = let g = c .before .before .before .before .before .before .before .before .before .before .before .before .args in continues (g .t .now) (g .cells .now) (g .classes) (g .c1) (g .c2) _ (c .before .before .before .before .before .before .before .check-run .ensures) (c .before .before .before .before .before .enum-told .given .1) _ (c .before .before .before .before .frame-of .ensures) (g .m) (omega (arith, c .before .before .before .before .before .before .before .before .before .before .before .before .fits)) (sym (c .before .before .record-fits .ensures) ∙ c .before .if1 .taken)
+run-from-requires c κs = let g = c .before .before .before .before .before .before .before .before .before .before .before .before .args in continues (g .t .now) (g .cells .now) (g .classes) (g .c1) (g .c2) (c .before .before .before .before .before .before .before .check-run .ensures) (c .before .before .before .before .before .enum-told .given .1) (c .before .before .before .before .frame-of .ensures) (g .m) (sym (c .before .before .record-fits .ensures) ∙ c .before .if1 .taken)
 
 same-length-2 : tie.Need-same-length-2
 same-length-2 c = search needs

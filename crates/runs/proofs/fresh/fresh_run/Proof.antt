@@ -29,7 +29,7 @@ frame-of-requires : tie.Need-frame-of-requires
 frame-of-requires c κs = search needs
 
 start-requires : tie.Need-start-requires
-start-requires c κs = let g = c .before .before .before .before .before .before .before .before .before .args in lends (g .t .now) (g .cells .now) (g .classes) (g .c1) (g .c2) _ (c .before .before .before .before .check-run .ensures) (c .before .before .enum-told .given .1) _ (c .before .frame-of .ensures)
+start-requires c κs = let g = c .before .before .before .before .before .before .before .before .before .args in lends (g .t .now) (g .cells .now) (g .classes) (g .c1) (g .c2) (c .before .before .before .before .check-run .ensures) (c .before .before .enum-told .given .1) (c .before .frame-of .ensures)
 
 same-length-2 : tie.Need-same-length-2
 same-length-2 c = search needs

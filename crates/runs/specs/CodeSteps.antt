@@ -1,15 +1,13 @@
--- What the loop of a run is lent, and what it hands back, seen as the model's report.
+-- The code's own words: what the loop of a run is lent, and how it stops.
 use mathlib.Core.Path.{_≡_}
 use Prim.Native.Nat.{ℕ, suc, _<_, _≤_}
 use mathlib.Core.List.{List}
-use lib.ListN.{length, drop}
+use lib.ListN.{length}
 use Rattle.model.specs.Table.{nestAt, openAt}
 use Rattle.model.specs.Table.Nest.{opens}
-use Rattle.model.specs.Step.{Report, End as ModelEnd}
-use Rattle.model.specs.Step.End.{done, assertFalse, assumeFalse, failed, wantOfCells, outOfSteps, choiceNotAllowed, noChoiceLeft}
-use Rattle.model.specs.Step.Report.{ended}
+use Rattle.model.specs.Step.{Report}
 use Rattle.model.specs.Accepted.{Accepted, CanHave, Regular}
-use Rattle.table.specs.Code.{Laid}
+use Rattle.table.specs.Code.{InSorts}
 use Rattle.machine.specs.declared.Machine.{Machine}
 use Rattle.machine.specs.declared.frame.Frame.{Frame}
 use Rattle.machine.specs.declared.rows.Outcome.{Outcome}
@@ -18,30 +16,22 @@ use Rattle.runs.specs.declared.End.{End}
 use Rattle.runs.specs.declared.End.the-variants as Code
 use Rattle.runs.specs.declared.Ran.{Ran}
 use Rattle.machine.specs.View.{places, kindOf, tableFor, stateOf}
+use Prim.Native.Nat.{ℕ}
+use lib.ListN.{length}
+use Rattle.table.specs.declared.Verdict.the-variants.{Passes}
+use Rattle.model.specs.Table.{tableOf}
+use Rattle.machine.specs.View.{kindOf, tableFor}
+use Rattle.runs.specs.Checks.{runChecks}
+use Rattle.runs.specs.Ends.{reportOf}
 
 -- a table that passes its checks, and a record that 15 does not refuse
 pub record Ready (t : List ℕ) (f : Frame) (m : Machine) (cells : List ℕ) : Type 0 where
   pub accepted : Accepted (kindOf f) (tableFor t f)
-  pub laid : Laid (tableFor t f)
+  pub laid : InSorts (tableFor t f)
   pub few : (r : ℕ) → r < f .rows → nestAt (tableFor t f) r ≡ opens → length (openAt (tableFor t f) r) < 8
   pub can : CanHave (places f) (kindOf f) (tableFor t f) (stateOf t f m cells)
   pub regular : Regular (places f) (kindOf f) (tableFor t f) (stateOf t f m cells)
   pub room : length cells ≤ 4294967295
-
--- "done; assert false; assume false; fail; want of cells (or a 17th array); out of steps; choice not allowed; no choice left"
-abbrev pub endOf : End → ModelEnd
-endOf Code.Done = done
-endOf Code.AssertFalse = assertFalse
-endOf Code.AssumeFalse = assumeFalse
-endOf Code.Fail = failed
-endOf Code.WantOfCells = wantOfCells
-endOf Code.OutOfSteps = outOfSteps
-endOf Code.ChoiceNotAllowed = choiceNotAllowed
-endOf Code.NoChoiceLeft = noChoiceLeft
-
--- end, steps, the record with the cells, and the choices left
-abbrev pub reportOf : List ℕ → Frame → List ℕ → Ran → List ℕ → Report
-reportOf t f l r cells = ended (endOf (r .end)) (r .steps) (stateOf t f (r .machine) cells) (drop (r .used) l)
 
 abbrev pub ran : End → ℕ → ℕ → Machine → Ran
 ran e n at m = record { end = e; steps = n; used = at; machine = m }
@@ -63,3 +53,8 @@ stoppedOf Stuck n at m = ran Code.Fail n at m
 pub record Reports (t : List ℕ) (f : Frame) (l : List ℕ) (r : Ran) (cells : List ℕ) (said : Report) : Type 0 where
   pub report : reportOf t f l r cells ≡ said
   pub within : r .used ≤ length l
+
+-- a table, its frame and cells that pass
+pub record Lends (t : List ℕ) (f : Frame) (cells : List ℕ) : Type 0 where
+  pub framed : tableFor t f ≡ tableOf t
+  pub passes : runChecks (kindOf f) (places f) t (length cells) ≡ Passes

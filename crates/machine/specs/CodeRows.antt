@@ -5,6 +5,7 @@ use mathlib.Core.Bool.{Bool, true, false}
 use mathlib.Core.List.{List}
 use lib.ListN.{length, drop, set}
 use lib.Dec.{ltb, eqb}
+use Rattle.machine.specs.CodeAnswers.{Lent, arraysIn, operand}
 use Rattle.lists.specs.If.{if_then_else_}
 use Rattle.model.specs.Class.{class}
 use Rattle.model.specs.Table.Ty.{uint, pointer}
@@ -20,12 +21,13 @@ use Rattle.machine.specs.declared.frame.Frame.{Frame}
 use Rattle.machine.specs.declared.answers.Answer.{Answer}
 use Rattle.machine.specs.declared.answers.Answer.the-variants.{Bool as ABool, Uint as AUint, Pointer as APointer, Fails, BadChoice, NoChoice, Stuck}
 use Rattle.machine.specs.declared.rows.Outcome.{Outcome}
-use Rattle.machine.specs.declared.rows.Outcome.the-variants.{Goes, AssertFalse, AssumeFalse, WantOfCells, Fails as OFails, BadChoice as OBad, NoChoice as ONone, Stuck as OStuck}
+use Rattle.machine.specs.declared.rows.Outcome.the-variants.{Goes, AssertFalse, AssumeFalse, WantOfCells, Fails as OFails, BadChoice as OBad}
+use Rattle.machine.specs.declared.rows.Outcome.the-variants.{NoChoice as ONone, Stuck as OStuck}
 use Rattle.machine.specs.declared.writes.Operands.{Operands}
 use Rattle.machine.specs.declared.writes.Operands.the-variants.{Both, Fails as BFails, BadChoice as BBad, NoChoice as BNone, Stuck as BStuck}
 use Rattle.machine.specs.declared.writes.Spot.{Spot}
 use Rattle.machine.specs.declared.writes.Spot.the-variants.{At, Dropped, Fails as SFails, BadChoice as SBad, NoChoice as SNone, Stuck as SStuck}
-use Rattle.machine.specs.View.{places, stateOf, Lent, arraysIn, operand}
+use Rattle.machine.specs.View.{places, stateOf}
 
 -- ---- outcomes
 -- what a row came to, with a cursor into the list l; `on` is where it goes on

@@ -5,20 +5,21 @@ use mathlib.Core.Bool.{Bool, true, false}
 use mathlib.Core.List.{List, [], _∷_}
 use lib.ListN.{getD}
 use lib.Dec.{ltb, eqb}
+use Rattle.machine.specs.CodeAnswers.{Lent, varsIn, arraysIn, tableIn, outOf, operand}
 use Rattle.lists.specs.If.{if_then_else_}
 use Rattle.lists.specs.Tab.{tab}
 use Rattle.model.specs.Class.{pair, tracked}
 use Rattle.model.specs.Table.{Ty, markedUint}
 use Rattle.model.specs.Work.{Out}
-use Rattle.model.specs.State.{Value, State}
+use Rattle.model.specs.State.{Value, State, position}
 use Rattle.model.specs.Eval.{Of, Ptr, variableOf}
 use Rattle.model.specs.Writer.{given, numberOf, heldReduced, choicesF}
 use Rattle.machine.specs.declared.frame.Frame.{Frame}
 use Rattle.machine.specs.declared.answers.Answer.{Answer}
 use Rattle.machine.specs.declared.answers.Answer.the-variants.{Bool as ABool, Uint as AUint, Pointer as APointer, Fails, BadChoice, NoChoice, Stuck}
-use Rattle.machine.specs.View.{tableFor, Lent, varsIn, arraysIn, tableIn, outOf, operand}
-use Rattle.machine.specs.Leaves.{heldFor}
-use Rattle.recording.specs.Pushes.{Pushed, pushed, pushAll}
+use Rattle.machine.specs.View.{tableFor}
+use Rattle.machine.specs.CodeLeaves.{heldFor}
+use Rattle.recording.specs.CodePushes.{Pushed, pushed, pushAll}
 
 -- which of so many arrays the reduced run holds reduced: a 1 in the column says it (R28)
 unfoldable pub heldOf : ℕ → List ℕ → List Bool
@@ -34,7 +35,7 @@ pairOf f = pair (f .c1) (f .c2)
 
 -- the state that a node is worked out at: neither the row nor the loops matter to it
 abbrev pub stateIn : Lent → State
-stateIn e = record { row = 0; loops = []; vars = varsIn e; arrays = arraysIn e; cells = e .cells }
+stateIn e = record { here = position 0 []; vars = varsIn e; arrays = arraysIn e; cells = e .cells }
 
 -- "writes the true number wherever the reduced run takes a choice": those of node n, which must be below `user`, for the type w
 unfoldable pub operandNumbers : Lent → List ℕ → Ty → ℕ → ℕ → List ℕ

@@ -1,22 +1,21 @@
--- What the loop of the choice writer is lent, and what it hands back, seen as the model's report.
+-- The code's own words: what the loop of the choice writer is lent, and how it stops.
 use mathlib.Core.Path.{_≡_}
 use Prim.Native.Nat.{ℕ, suc, _<_, _≤_}
 use mathlib.Core.List.{List}
-use lib.ListN.{length, take, drop}
+use lib.ListN.{length, drop}
 use Rattle.table.specs.Rules.{depth, mostDepth}
-use Rattle.model.specs.Step.{Report, End as ModelEnd}
-use Rattle.model.specs.Step.End.{done, assertFalse, assumeFalse, failed, wantOfCells, outOfSteps, listFull}
-use Rattle.model.specs.Step.Report.{ended}
+use Rattle.model.specs.Step.{Report}
 use Rattle.machine.specs.declared.Machine.{Machine}
 use Rattle.machine.specs.declared.frame.Frame.{Frame}
 use Rattle.machine.specs.declared.rows.Outcome.{Outcome}
 use Rattle.machine.specs.declared.rows.Outcome.the-variants.{Goes, AssertFalse, AssumeFalse, WantOfCells, Fails, BadChoice, NoChoice, Stuck}
-use Rattle.machine.specs.View.{tableFor, stateOf}
-use Rattle.runs.specs.Steps.{Ready}
-use Rattle.recording.specs.Records.{Plain}
+use Rattle.machine.specs.View.{tableFor}
+use Rattle.runs.specs.CodeSteps.{Ready}
+use Rattle.recording.specs.CodeRecords.{Plain}
 use Rattle.choices.specs.declared.End.{End}
 use Rattle.choices.specs.declared.End.the-variants as Code
 use Rattle.choices.specs.declared.Wrote.{Wrote}
+use Rattle.choices.specs.Ends.{reportOf}
 
 -- a plain table that passes its checks, and a record with no arrays
 pub record Begins (t : List ℕ) (f : Frame) (m : Machine) (cells : List ℕ) : Type 0 where
@@ -24,20 +23,6 @@ pub record Begins (t : List ℕ) (f : Frame) (m : Machine) (cells : List ℕ) : 
   pub plain : Plain f
   pub shallow : (n : ℕ) → n < f .nodes → depth (tableFor t f) n ≤ mostDepth
   pub none : m .count ≡ 0
-
--- those of a plain run, and "list full (choice writer only)"
-abbrev pub endOf : End → ModelEnd
-endOf Code.Done = done
-endOf Code.AssertFalse = assertFalse
-endOf Code.AssumeFalse = assumeFalse
-endOf Code.Fail = failed
-endOf Code.WantOfCells = wantOfCells
-endOf Code.OutOfSteps = outOfSteps
-endOf Code.ListFull = listFull
-
--- end, steps, the record with the cells, and the numbers written
-abbrev pub reportOf : List ℕ → Frame → Wrote → List ℕ → List ℕ → Report
-reportOf t f r cells list = ended (endOf (r .end)) (r .steps) (stateOf t f (r .machine) cells) (take (r .count) list)
 
 abbrev pub wrote : End → ℕ → ℕ → Machine → Wrote
 wrote e n at m = record { end = e; steps = n; count = at; machine = m }

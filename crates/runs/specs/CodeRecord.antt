@@ -1,4 +1,4 @@
--- What the parts of check 15 say in code: the loops around a row by a walk back from it, a variable by its sort, an array by the place where
+-- The code's own words, what the parts of check 15 say: the loops around a row by a walk back from it, a variable by its sort, an array by the place where
 -- it must start.
 use mathlib.Core.Path.{_≡_}
 use Prim.Native.Nat.{ℕ, zero, suc, _≤_}
@@ -6,13 +6,14 @@ use mathlib.Core.Bool.{Bool, true, false, not, _&&_, _||_}
 use mathlib.Core.List.{List, [], _∷_}
 use lib.ListN.{getD, drop}
 use lib.Dec.{leb, eqb}
+use Rattle.model.specs.Class.{classHeld, pair}
 use Rattle.lists.specs.If.{if_then_else_}
 use Rattle.machine.specs.declared.frame.Frame.{Frame}
 use Rattle.machine.specs.declared.variables.Sort.{Sort}
 use Rattle.machine.specs.declared.variables.Sort.the-variants.{Bool as SBool, Uint as SUint, Class as SClass, Pointer as SPointer}
 use Rattle.runs.specs.declared.loops.Walk.{Walk}
 use Rattle.runs.specs.declared.loops.Walk.the-variants.{On, Differs}
-use Rattle.runs.specs.Record.{sameNumbers, classHeld}
+use Rattle.runs.specs.Record.{sameNumbers}
 
 -- ---- the loops: the rows of the first n, innermost first
 unfoldable pub rowsOf : ℕ → List ℕ → List ℕ
@@ -45,7 +46,7 @@ pub record Walks (rows : List ℕ) (nest closed left i : ℕ) (r : Walk) : Type 
 abbrev pub fitsBySort : Frame → ℕ → Sort → ℕ → ℕ → Bool
 fitsBySort f count SBool x base = leb x 1
 fitsBySort f count SUint x base = true
-fitsBySort f count SClass x base = classHeld (f .c1) (f .c2) x
+fitsBySort f count SClass x base = classHeld (pair (f .c1) (f .c2)) x
 fitsBySort f count SPointer x base = leb base count
 
 -- ---- an array, which must start at `from`

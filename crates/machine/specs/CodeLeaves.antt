@@ -8,7 +8,8 @@ use lib.Dec.{ltb, leb, eqb}
 use Rattle.lists.specs.If.{if_then_else_}
 use Rattle.model.specs.Class.{class, tracked}
 use Rattle.model.specs.Table.{Ty, Line, lineAt, Node, nodeKind}
-use Rattle.model.specs.Table.Node.{variable, uintConstant, boolConstant, cell, plus, minus, less, atMost, equal, conditional, valid, classVariable, reducedCell, reducedValid, noNode}
+use Rattle.model.specs.Table.Node.{variable, uintConstant, boolConstant, cell, plus, minus, less, atMost, equal, conditional, valid, classVariable}
+use Rattle.model.specs.Table.Node.{reducedCell, reducedValid, noNode}
 use Rattle.model.specs.Work.{Out, Work, _>>=_, give, fail, wrong, choose}
 use Rattle.model.specs.Work.Out.{gives, fails, stuck}
 use Rattle.model.specs.State.{Value, Array}

@@ -8,7 +8,7 @@ use Rattle.model.specs.Table.Nest.{opens}
 use Rattle.machine.specs.declared.Machine.{Machine}
 use Rattle.machine.specs.declared.frame.Frame.{Frame}
 use Rattle.machine.specs.View.{tableFor}
-use Rattle.machine.specs.Loops.{BoolsFit}
+use Rattle.machine.specs.CodeLoops.{BoolsFit}
 
 -- "Declarations come first (at most 32), then nodes (1,024), then instruction rows (256)"; "at most 16 arrays"; by 11 ("loop inside eight") at
 -- most eight open loops; bools that 15 does not refuse

@@ -4,11 +4,11 @@ use Prim.Native.Nat.{ℕ, zero, suc, _+_, _-_, _<_, _≤_}
 use native.Mathlib.Omega.{arith}
 use mathlib.Core.Path.{_≡_, refl, sym, ap, _∙_, subst}
 use mathlib.Core.List.{List, [], _∷_, _++_}
-use lib.ListN.{length, length-append}
+use lib.ListN.{length}
 use Rattle.lists.specs.First.{walk}
 use Rattle.model.specs.Table.{Nest, Table, matchingEnd, nestAt, nested, openAt, scanned}
 use Rattle.model.specs.Table.Nest.{opens, closes, neither}
 use Rattle.model.proofs.Nested.{Chain, chain, from}
 
 -- every number is at least b
 abbrev AllFrom : ℕ → List ℕ → Type 0
@@ -27,7 +27,8 @@ module _ (t : Table) where
   open-since : (b k : ℕ) → OpenSince b (openAt t b) (openAt t (b + k))
   unfolding openAt
   open-since b zero = record { new = []; old = openAt t b; is = ap (openAt t) {x = b + 0} {y = b} (omega arith); since = tt; few = omega arith }
-  open-since b (suc k) = subst (λ (r : ℕ). OpenSince b (openAt t b) (openAt t r)) {x = suc (b + k)} {y = b + suc k} (omega arith) (go (nestAt t (b + k)) refl (open-since b k))
+  open-since b (suc k) = subst (λ (r : ℕ). OpenSince b (openAt t b) (openAt t r)) {x = suc (b + k)} {y = b + suc k} (omega arith)
+      (go (nestAt t (b + k)) refl (open-since b k))
     where
       close : (S : OpenSince b (openAt t b) (openAt t (b + k))) (xs : List ℕ) → S .new ≡ xs → OpenSince b (openAt t b) (nested closes (b + k) (xs ++ S .old))
       close S [] e = drop (S .old) (S .few)
@@ -37,7 +38,8 @@ module _ (t : Table) where
           drop (y ∷ ys) l = record { new = []; old = ys; is = refl; since = tt; few = omega arith }
       close S (x ∷ xs) e = record { new = xs; old = S .old; is = refl; since = (subst (AllFrom b) e (S .since)) .1; few = S .few }
 
-      go : (n : Nest) → nestAt t (b + k) ≡ n → OpenSince b (openAt t b) (openAt t (b + k)) → OpenSince b (openAt t b) (nested (nestAt t (b + k)) (b + k) (openAt t (b + k)))
+      go : (n : Nest) → nestAt t (b + k) ≡ n → OpenSince b (openAt t b) (openAt t (b + k))
+          → OpenSince b (openAt t b) (nested (nestAt t (b + k)) (b + k) (openAt t (b + k)))
       go opens e S = rw e (record { new = (b + k) ∷ S .new; old = S .old; is = ap (λ l. (b + k) ∷ l) (S .is); since = (omega arith, S .since); few = S .few })
       go closes e S = rw e (subst (λ l. OpenSince b (openAt t b) (nested closes (b + k) l)) (sym (S .is)) (close S (S .new) refl))
       go neither e S = rw e S
@@ -70,7 +72,8 @@ module _ (t : Table) where
         clash (matchingEnd t o) h (s .0) (s .1)
       where
         clash : (q : ℕ) → q < t .rows → suc o ≤ q → openAt t (suc q) ≡ os → ⊥
-        clash q h l w = go (S .new) (S .old) (sym e ∙ ap (openAt t) {x = t .rows} {y = suc q + (t .rows - suc q)} (omega arith) ∙ S .is) (S .since) (omega (arith, S .few, ap length w))
+        clash q h l w = go (S .new) (S .old) (sym e ∙ ap (openAt t) {x = t .rows} {y = suc q + (t .rows - suc q)} (omega arith) ∙ S .is) (S .since)
+            (omega (arith, S .few, ap length w))
           where
             S : OpenSince (suc q) (openAt t (suc q)) (openAt t (suc q + (t .rows - suc q)))
             S = open-since (suc q) (t .rows - suc q)

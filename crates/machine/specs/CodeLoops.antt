@@ -5,6 +5,7 @@ use mathlib.Core.Bool.{Bool, true, false}
 use mathlib.Core.List.{List}
 use lib.ListN.{getD, drop}
 use lib.Dec.{eqb}
+use Rattle.machine.specs.CodeAnswers.{Lent, operand}
 use Rattle.lists.specs.If.{if_then_else_}
 use Rattle.lists.specs.declared.Found.{Found}
 use Rattle.lists.specs.declared.Found.the-variants.{At, Nothing}
@@ -26,7 +27,7 @@ use Rattle.machine.specs.declared.loops.Bounds.{Bounds}
 use Rattle.machine.specs.declared.loops.Bounds.the-variants.{Both, Fails as BFails, BadChoice as BBad, NoChoice as BNone, Stuck as BStuck}
 use Rattle.machine.specs.declared.rows.Outcome.{Outcome}
 use Rattle.machine.specs.declared.rows.Outcome.the-variants.{Fails as OFails, BadChoice as OBad, NoChoice as ONone, Stuck as OStuck}
-use Rattle.machine.specs.View.{sortIn, loopsOf, Lent, operand}
+use Rattle.machine.specs.View.{sortIn, loopsOf}
 
 -- ---- a loop's start and end
 pub record Range : Type 0 where

@@ -14,7 +14,8 @@ use Rattle.machine.specs.declared.answers.Answer.the-variants.{Bool as A
 use Rattle.machine.specs.declared.variables.Sort.{Sort}
 use Rattle.machine.specs.declared.variables.Sort.the-variants.{Bool as SBool, Uint as SUint, Class as SClass, Pointer as SPointer}
 use Rattle.machine.specs.declared.rows.Outcome.{Outcome}
-use Rattle.machine.specs.declared.rows.Outcome.the-variants.{Goes, AssertFalse, AssumeFalse, Fails as OFails, BadChoice as OBad, NoChoice as ONone, Stuck as OStuck}
+use Rattle.machine.specs.declared.rows.Outcome.the-variants.{Goes, AssertFalse, AssumeFalse, Fails as OFails, BadChoice as OBad, NoChoice as ONone}
+use Rattle.machine.specs.declared.rows.Outcome.the-variants.{Stuck as OStuck}
 use Rattle.machine.specs.declared.rows.Stepped.{Stepped}
 use Rattle.machine.specs.View.{sortIn}
 

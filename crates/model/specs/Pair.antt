@@ -1,0 +1,32 @@
+-- What document 01 says of c1 and c2: the case of two places. Proved in proofs/PairLaws.
+use mathlib.Core.Path.{_≡_}
+use Prim.Native.Nat.{ℕ, _+_, _<_, _≤_}
+use mathlib.Core.Bool.{true, not, _&&_}
+use lib.Dec.{ltb, leb, eqb}
+use Rattle.model.specs.Table.{most}
+use Rattle.model.specs.Class.{acceptedPlaces, class, classHeld, pair, tracked}
+
+-- 13: "c1 + 1 < c2, in whole numbers"
+abbrev pub PairAccepted : Type 0
+PairAccepted = (c1 c2 : ℕ) → acceptedPlaces (pair c1 c2) ≡ ltb (c1 + 1) c2
+
+-- "The class of v is 0 below c1, 1 at c1, 2 between, 3 at c2, 4 above."
+pub record PairClass (c1 c2 v : ℕ) : Type 0 where
+  pub below : v < c1 → class (pair c1 c2) v ≡ 0
+  pub atFirst : v ≡ c1 → class (pair c1 c2) v ≡ 1
+  pub between : c1 < v → v < c2 → class (pair c1 c2) v ≡ 2
+  pub atSecond : v ≡ c2 → class (pair c1 c2) v ≡ 3
+  pub above : c2 < v → class (pair c1 c2) v ≡ 4
+
+abbrev pub PairClasses : Type 0
+PairClasses = (c1 c2 : ℕ) → acceptedPlaces (pair c1 c2) ≡ true → (v : ℕ) → PairClass c1 c2 v
+
+-- "both tracked circuits": the places of demand 3's cells are c1 and c2
+abbrev pub PairTracked : Type 0
+PairTracked = (c1 c2 : ℕ) → (tracked (pair c1 c2) c1 ≡ true) × (tracked (pair c1 c2) c2 ≡ true)
+
+-- 15: "a class above 4 or holding no number": 0 where c1 is 0, 4 where c2 is the largest number (R26)
+abbrev pub PairHeld : Type 0
+PairHeld =
+    (c1 c2 : ℕ) → acceptedPlaces (pair c1 c2) ≡ true → c2 ≤ most → (k : ℕ)
+    → classHeld (pair c1 c2) k ≡ (leb k 4 && (not (eqb k 0 && eqb c1 0) && not (eqb k 4 && eqb c2 most)))
