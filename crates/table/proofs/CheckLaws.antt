@@ -15,7 +15,7 @@ use Rattle.model.specs.Table.{Table, tableOf}
 use Rattle.model.specs.Accepted.{nodeThere, rowThere}
 use Rattle.table.specs.declared.Verdict.the-variants.{Passes, Refused}
 use Rattle.table.specs.declared.Counts.{Counts}
-use Rattle.table.specs.Rules.{breaks8, breaks11}
+use Rattle.table.specs.Rules.{breaks8, breaks10, breaks11}
 use Rattle.table.specs.Checks.{machineOf, breaks, firstRefusal, tableCheck}
 use Rattle.table.specs.Code.{countsOf, tableBy, firstOf, InSorts, There}
 use Rattle.table.proofs.Sizes.{all-lines, declaration-at, node-at, row-at, sizes}
@@ -62,6 +62,10 @@ unfolding tableOf
 table-by w c q = ap (tableBy w) q
 
 -- 11 is the same of plain and reduced tables
+pub ten : (r : Bool) (w : List ℕ) (c : Counts) → firstOf 10 r w c ≡ first (breaks10 (tableBy w c)) 0 (length w / 4)
+unfolding breaks
+ten r w c = refl
+
 pub eleven : (r : Bool) (w : List ℕ) (c : Counts) → firstOf 11 r w c ≡ first (breaks11 (tableBy w c)) 0 (length w / 4)
 unfolding breaks
 eleven r w c = refl

@@ -1,6 +1,6 @@
 -- What the code keeps in place of the model's words: counts, numbers for the cases of a kind, types and depths of nodes in a buffer.
 use mathlib.Core.Path.{_≡_}
-use Prim.Native.Nat.{ℕ, _+_, _-_, _*_, _/_, _<_, _≤_, max}
+use Prim.Native.Nat.{ℕ, _+_, _-_, _*_, _/_, _<_, _≤_}
 use mathlib.Core.Bool.{Bool, true, false, not, _&&_, _||_}
 use mathlib.Core.List.{List, [], _∷_}
 use lib.ListN.{length, getD}
@@ -18,7 +18,7 @@ use Rattle.model.specs.Table.Role.{unused, flag, number, aVariable, aNode}
 use Rattle.model.specs.Table.Nest.{opens, closes, neither}
 use Rattle.model.specs.Accepted.{mostOpen, nodeThere, rowThere, nodeType, tyNumber}
 use Rattle.table.specs.declared.Counts.{Counts}
-use Rattle.table.specs.Rules.{kindAt, depth, rolesOf, breaks11}
+use Rattle.table.specs.Rules.{kindAt, depth, breaks11}
 use Rattle.table.specs.Checks.{machineOf, breaks}
 
 abbrev pub countsOf : List ℕ → Counts
@@ -287,21 +287,13 @@ lineTyped w types i =
 abbrev pub lineSuits : List ℕ → Bool → ℕ → Bool
 lineSuits w r i = suitsMark (marking (lineAt w i .kind)) r (marked w 2 (lineAt w i .a)) (marked w 3 (lineAt w i .a))
 
--- the buffer has the depths of the first n nodes
-pub record Depths (t : Table) (depths : List ℕ) (n : ℕ) : Type 0 where
-  pub right : (j : ℕ) → j < n → getD depths j 0 ≡ depth t j
-  pub small : (j : ℕ) → j < n → getD depths j 0 ≤ n
+-- what the buffer keeps is a node's depth; 0 stands where none is kept yet
+pub record Kept (t : Table) (depths : List ℕ) : Type 0 where
+  pub right : (j : ℕ) → j < t .nodes → (getD depths j 0 ≡ 0 → ⊥) → getD depths j 0 ≡ depth t j
 
 -- the depth of an operand of node n, by its role
-abbrev pub depthBelow : List ℕ → ℕ → ℕ → ℕ → ℕ
-depthBelow depths n role x = if eqb role 4 then (if ltb x n then getD depths x 0 else 0) else 0
-
--- the depth of the node at a line, by its number
-abbrev pub lineDepth : List ℕ → List ℕ → ℕ → ℕ → ℕ
-lineDepth w depths i n =
-    1 + max (depthBelow depths n (roleNumber (rolesOf (lineAt w i .kind) .a)) (lineAt w i .a))
-    (max (depthBelow depths n (roleNumber (rolesOf (lineAt w i .kind) .b)) (lineAt w i .b))
-    (depthBelow depths n (roleNumber (rolesOf (lineAt w i .kind) .c)) (lineAt w i .c)))
+abbrev pub depthUnder : Table → ℕ → ℕ → ℕ → ℕ
+depthUnder t n role x = if eqb role 4 then (if ltb x n then depth t x else 0) else 0
 
 -- the first line that breaks a rule
 abbrev pub firstOf : ℕ → Bool → List ℕ → Counts → Found

@@ -1,8 +1,7 @@
 // The checks in their order, each over all lines: the first line that breaks it refuses.
 use crate::Counts;
 use crate::Verdict;
-use crate::depths::breaks_10;
-use crate::depths::depths_below;
+use crate::depths::first_deep;
 use crate::lines::breaks_5;
 use crate::lines::breaks_6;
 use crate::lines::breaks_7;
@@ -17,7 +16,7 @@ ghost use mathlib.Core.List.{[], _∷_};
 ghost use Prim.Native.Nat.{_+_, _*_, _/_, _%_, _<_, _≤_};
 ghost use lib.ListN.{length};
 ghost use Rattle.table.specs.Checks.{machineOf, breaks, firstRefusal};
-ghost use Rattle.table.specs.Code.{countsOf, tableBy, firstOf, InSorts, There, Types, Depths};
+ghost use Rattle.table.specs.Code.{countsOf, tableBy, firstOf, InSorts, There, Types};
 
 // Whether a line breaks one of 5 to 8.
 fn line_breaks(check: u32, words: &[u32], counts: Counts, reduced: bool, line: usize) -> bool
@@ -71,46 +70,43 @@ pub(crate) fn check_lines(words: &[u32], counts: Counts, reduced: bool) -> Verdi
     Verdict::Passes
 }
 
-// Whether a line breaks 9, 10 or 12.
+// Whether a line breaks 9 or 12.
 fn sense_breaks(
     check: u32,
     words: &[u32],
     counts: Counts,
     reduced: bool,
     types: &[u32],
-    depths: &[u32],
     line: usize,
 ) -> bool
-    requires { ⌜ (9 ≤ check) × (check ≤ 12) × (check ≡ 11 → ⊥) × (4 * line + 3 < length (now words)) ⌝ }
+    requires { ⌜ ((check ≡ 9 → ⊥) → check ≡ 12) × (4 * line + 3 < length (now words)) ⌝ }
     requires { ⌜ InSorts (tableBy (now words) counts) × There (tableBy (now words) counts) ⌝ }
-    requires { ⌜ Types (tableBy (now words) counts) (now types) (counts .nodes) × Depths (tableBy (now words) counts) (now depths) (counts .nodes) ⌝ }
+    requires { ⌜ Types (tableBy (now words) counts) (now types) (counts .nodes) ⌝ }
     ensures { λ r. ⌜ r ≡ breaks check (machineOf reduced) (tableBy (now (words .entry)) counts) line ⌝ }
 {
     match check {
         9 => breaks_9(words, counts, types, line),
-        10 => breaks_10(words, counts, depths, line),
         _ => breaks_12(words, counts, reduced, line),
     }
 }
 
-// The first line that breaks 9, 10 or 12.
+// The first line that breaks 9 or 12.
 fn first_sense(
     check: u32,
     words: &[u32],
     counts: Counts,
     reduced: bool,
     types: &[u32],
-    depths: &[u32],
 ) -> Found
-    requires { ⌜ (9 ≤ check) × (check ≤ 12) × (check ≡ 11 → ⊥) ⌝ }
+    requires { ⌜ ((check ≡ 9 → ⊥) → check ≡ 12) ⌝ }
     requires { ⌜ InSorts (tableBy (now words) counts) × There (tableBy (now words) counts) ⌝ }
-    requires { ⌜ Types (tableBy (now words) counts) (now types) (counts .nodes) × Depths (tableBy (now words) counts) (now depths) (counts .nodes) ⌝ }
+    requires { ⌜ Types (tableBy (now words) counts) (now types) (counts .nodes) ⌝ }
     ensures { λ r. ⌜ r ≡ firstOf check reduced (now (words .entry)) counts ⌝ }
 {
     let lines = words.len() / 4;
     let mut i: usize = 0;
     while i < lines {
-        if sense_breaks(check, words, counts, reduced, types, depths, i) {
+        if sense_breaks(check, words, counts, reduced, types, i) {
             return Found::At(i);
         }
         i += 1;
@@ -118,28 +114,27 @@ fn first_sense(
     Found::Nothing
 }
 
-// Checks 9 to 12, with the types and depths at hand.
+// Checks 9 to 12, with the types at hand.
 fn check_with(
     words: &[u32],
     counts: Counts,
     reduced: bool,
     types: &[u32],
-    depths: &[u32],
 ) -> Verdict
     requires { ⌜ InSorts (tableBy (now words) counts) × There (tableBy (now words) counts) ⌝ }
-    requires { ⌜ Types (tableBy (now words) counts) (now types) (counts .nodes) × Depths (tableBy (now words) counts) (now depths) (counts .nodes) ⌝ }
+    requires { ⌜ Types (tableBy (now words) counts) (now types) (counts .nodes) ⌝ }
     ensures { λ r. ⌜ r ≡ firstRefusal (λ k. firstOf k reduced (now (words .entry)) counts) (9 ∷ 10 ∷ 11 ∷ 12 ∷ []) ⌝ }
 {
-    if let Found::At(i) = first_sense(9, words, counts, reduced, types, depths) {
+    if let Found::At(i) = first_sense(9, words, counts, reduced, types) {
         return Verdict::Refused(9, i);
     }
-    if let Found::At(i) = first_sense(10, words, counts, reduced, types, depths) {
+    if let Found::At(i) = first_deep(words, counts) {
         return Verdict::Refused(10, i);
     }
     if let Found::At(i) = first_unnested(words, counts) {
         return Verdict::Refused(11, i);
     }
-    if let Found::At(i) = first_sense(12, words, counts, reduced, types, depths) {
+    if let Found::At(i) = first_sense(12, words, counts, reduced, types) {
         return Verdict::Refused(12, i);
     }
     Verdict::Passes
@@ -152,7 +147,5 @@ pub(crate) fn check_senses(words: &[u32], counts: Counts, reduced: bool) -> Verd
 {
     let mut types = [0u32; 1024];
     fill_types(words, counts, &mut types);
-    let mut depths = [0u32; 1024];
-    depths_below(words, counts, &mut depths, counts.nodes);
-    check_with(words, counts, reduced, &types, &depths)
+    check_with(words, counts, reduced, &types)
 }

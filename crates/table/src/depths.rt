@@ -1,14 +1,15 @@
-// The depth of a node by recursion, each kept in a lent buffer so that it is found once, and check 10.
+// The depth of a node by recursion into its operands, each kept in a lent buffer so that it is worked out once, and check 10.
 use crate::Counts;
 use crate::kinds::role_a;
 use crate::kinds::role_b;
 use crate::kinds::role_c;
-use lists::word_or_zero;
+use lists::Found;
 ghost use mathlib.Core.Path.{_≡_};
-ghost use Prim.Native.Nat.{ℕ, _+_, _*_, _<_, _≤_, max};
-ghost use lib.ListN.{length, getD};
+ghost use Prim.Native.Nat.{_+_, _*_, _/_, _<_, _≤_, max};
+ghost use lib.ListN.{length};
+ghost use Rattle.lists.specs.First.{first};
 ghost use Rattle.table.specs.Rules.{depth, breaks10};
-ghost use Rattle.table.specs.Code.{tableBy, depthBelow, lineDepth, InSorts, Depths};
+ghost use Rattle.table.specs.Code.{tableBy, depthUnder, InSorts, Kept};
 
 const A_NODE: u32 = 4;
 
@@ -20,66 +21,60 @@ fn larger(a: u32, b: u32) -> u32
     if a < b { b } else { a }
 }
 
-// The kept depth of an operand of a node; 0 where it names no smaller node.
-fn operand_depth(depths: &[u32], node: usize, role: u32, x: u32) -> u32
-    requires { ⌜ ((j : ℕ) → j < node → getD (now depths) j 0 ≤ node) ⌝ }
-    ensures { λ r. ⌜ (r ≡ depthBelow (now (depths .entry)) node role x) × (r ≤ node) ⌝ }
-{
-    let i = x as usize;
-    if role == A_NODE {
-        if i < node {
-            return word_or_zero(depths, i);
-        }
-        return 0;
-    }
-    0
-}
-
-// The depth of the node at a line, from the kept depths of its operands.
-fn line_depth(words: &[u32], depths: &[u32], line: usize, node: usize) -> u32
-    requires { ⌜ (4 * line + 3 < length (now words)) × (node < 1024) ⌝ }
-    requires { ⌜ ((j : ℕ) → j < node → getD (now depths) j 0 ≤ node) ⌝ }
-    ensures { λ r. ⌜ (r ≡ lineDepth (now (words .entry)) (now (depths .entry)) line node) × (r ≤ node + 1) ⌝ }
-{
-    let w = 4 * line;
-    let k = words[w];
-    let a = operand_depth(depths, node, role_a(k), words[w + 1]);
-    let b = operand_depth(depths, node, role_b(k), words[w + 2]);
-    let c = operand_depth(depths, node, role_c(k), words[w + 3]);
-    1 + larger(a, larger(b, c))
-}
-
-// The depth of a node, those of all smaller nodes found first and kept.
+// The depth of a node, worked out once and kept.
 fn depth_of(words: &[u32], counts: Counts, depths: &mut [u32], node: usize) -> u32
     requires { ⌜ InSorts (tableBy (now words) counts) ⌝ }
-    requires { ⌜ (length (now depths) ≡ 1024) × (node < counts .nodes) ⌝ }
-    ensures { λ r. ⌜ r ≡ depth (tableBy (now (words .entry)) counts) node ⌝ }
-    ensures { λ _. ⌜ (length (now (depths .exit)) ≡ 1024) × Depths (tableBy (now (words .entry)) counts) (now (depths .exit)) (node + 1) ⌝ }
+    requires { ⌜ (length (now depths) ≡ 1024) × (node < counts .nodes) × Kept (tableBy (now words) counts) (now depths) ⌝ }
+    ensures { λ r. ⌜ (r ≡ depth (tableBy (now (words .entry)) counts) node) × (r ≤ node + 1) ⌝ }
+    ensures { λ _. ⌜ (length (now (depths .exit)) ≡ 1024) × Kept (tableBy (now (words .entry)) counts) (now (depths .exit)) ⌝ }
 {
-    depths_below(words, counts, depths, node);
-    let d = line_depth(words, depths, counts.decls + node, node);
+    let kept = depths[node];
+    if kept != 0 {
+        return kept;
+    }
+    let d = line_depth(words, counts, depths, node);
     depths[node] = d;
     d
 }
 
-// The depths of the nodes below a node are kept.
-pub(crate) fn depths_below(words: &[u32], counts: Counts, depths: &mut [u32], node: usize)
+// 1 and the greatest depth of a node's operands.
+fn line_depth(words: &[u32], counts: Counts, depths: &mut [u32], node: usize) -> u32
     requires { ⌜ InSorts (tableBy (now words) counts) ⌝ }
-    requires { ⌜ (length (now depths) ≡ 1024) × (node ≤ counts .nodes) ⌝ }
-    ensures { λ _. ⌜ (length (now (depths .exit)) ≡ 1024) × Depths (tableBy (now (words .entry)) counts) (now (depths .exit)) node ⌝ }
+    requires { ⌜ (length (now depths) ≡ 1024) × (node < counts .nodes) × Kept (tableBy (now words) counts) (now depths) ⌝ }
+    ensures { λ r. ⌜ (r ≡ depth (tableBy (now (words .entry)) counts) node) × (r ≤ node + 1) ⌝ }
+    ensures { λ _. ⌜ (length (now (depths .exit)) ≡ 1024) × Kept (tableBy (now (words .entry)) counts) (now (depths .exit)) ⌝ }
 {
-    if node == 0 {
-        return;
+    let w = 4 * (counts.decls + node);
+    let k = words[w];
+    let a = operand_depth(words, counts, depths, node, role_a(k), words[w + 1]);
+    let b = operand_depth(words, counts, depths, node, role_b(k), words[w + 2]);
+    let c = operand_depth(words, counts, depths, node, role_c(k), words[w + 3]);
+    1 + larger(a, larger(b, c))
+}
+
+// The depth of an operand of a node; 0 where it names no smaller node.
+fn operand_depth(words: &[u32], counts: Counts, depths: &mut [u32], node: usize, role: u32, x: u32) -> u32
+    requires { ⌜ InSorts (tableBy (now words) counts) ⌝ }
+    requires { ⌜ (length (now depths) ≡ 1024) × (node < counts .nodes) × Kept (tableBy (now words) counts) (now depths) ⌝ }
+    ensures { λ r. ⌜ (r ≡ depthUnder (tableBy (now (words .entry)) counts) node role x) × (r ≤ node) ⌝ }
+    ensures { λ _. ⌜ (length (now (depths .exit)) ≡ 1024) × Kept (tableBy (now (words .entry)) counts) (now (depths .exit)) ⌝ }
+{
+    if role != A_NODE {
+        return 0;
     }
-    depth_of(words, counts, depths, node - 1);
+    let i = x as usize;
+    if i < node {
+        return depth_of(words, counts, depths, i);
+    }
+    0
 }
 
 // 10
-pub(crate) fn breaks_10(words: &[u32], counts: Counts, depths: &[u32], line: usize) -> bool
+fn breaks_10(words: &[u32], counts: Counts, depths: &mut [u32], line: usize) -> bool
     requires { ⌜ InSorts (tableBy (now words) counts) ⌝ }
-    requires { ⌜ Depths (tableBy (now words) counts) (now depths) (counts .nodes) ⌝ }
-    requires { ⌜ 4 * line + 3 < length (now words) ⌝ }
+    requires { ⌜ (length (now depths) ≡ 1024) × (4 * line + 3 < length (now words)) × Kept (tableBy (now words) counts) (now depths) ⌝ }
     ensures { λ r. ⌜ r ≡ breaks10 (tableBy (now (words .entry)) counts) line ⌝ }
+    ensures { λ _. ⌜ (length (now (depths .exit)) ≡ 1024) × Kept (tableBy (now (words .entry)) counts) (now (depths .exit)) ⌝ }
 {
     let decls = counts.decls;
     if line < decls {
@@ -87,7 +82,24 @@ pub(crate) fn breaks_10(words: &[u32], counts: Counts, depths: &[u32], line: usi
     }
     let n = line - decls;
     if n < counts.nodes {
-        return MOST < word_or_zero(depths, n);
+        return MOST < depth_of(words, counts, depths, n);
     }
     false
+}
+
+// 10: the first line that breaks it.
+pub(crate) fn first_deep(words: &[u32], counts: Counts) -> Found
+    requires { ⌜ InSorts (tableBy (now words) counts) ⌝ }
+    ensures { λ r. ⌜ r ≡ first (breaks10 (tableBy (now (words .entry)) counts)) 0 (length (now (words .entry)) / 4) ⌝ }
+{
+    let mut depths = [0u32; 1024];
+    let lines = words.len() / 4;
+    let mut i: usize = 0;
+    while i < lines {
+        if breaks_10(words, counts, &mut depths, i) {
+            return Found::At(i);
+        }
+        i += 1;
+    }
+    Found::Nothing
 }

@@ -12,10 +12,11 @@ use Rattle.table.proofs.checks.first_sense.Statement.{statement}
 use Rattle.table.proofs.checks.first_sense.Tie as tie
 
 abbrev Inv-loop : tie.InvT-loop
-Inv-loop check words counts reduced types depths lines i₀ i = (i ≤ lines) × (firstOf check reduced words counts ≡ first (breaks check (machineOf reduced) (tableBy words counts)) i (lines - i))
+Inv-loop check words counts reduced types lines i₀ i = (i ≤ lines)
+    × (firstOf check reduced words counts ≡ first (breaks check (machineOf reduced) (tableBy words counts)) i (lines - i))
 
 abbrev μ-loop : tie.MeasureT-loop
-μ-loop check words counts reduced types depths lines i₀ i = lines - i
+μ-loop check words counts reduced types lines i₀ i = lines - i
 
 returns : tie.Need-returns Inv-loop μ-loop
 returns c = cc (first-hit _ _ _ (c .before .before .loop-test .taken) (sym (c .before .sense-breaks .ensures) ∙ c .if1 .taken))

@@ -13,13 +13,10 @@ returns c = rw (c .before .match .keys1) (c .breaks-9 .ensures)
 
 returns-2 : tie.Need-returns-2
 unfolding breaks
-returns-2 c = rw (c .before .match .keys2) (c .breaks-10 .ensures)
-
-returns-3 : tie.Need-returns-3
-unfolding breaks
-returns-3 c = let asked = c .before .before .before .before .before in
-    let last : asked .args .check ≡ 12 = omega (arith, asked .pre .0 .2) in
+returns-2 c =
+    let asked = c .before .before .before .before in
+    let last : asked .args .check ≡ 12 = asked .pre .0 .0 (λ e. omega arith) in
     rw last (c .breaks-12 .ensures)
 
 pub sense-breaks-spec : {M : Type 1} → statement M
-sense-breaks-spec = tie.close (tie.spec (λ c κs. search needs) (λ c κs. search needs) (λ c κs. search needs) returns returns-2 returns-3)
+sense-breaks-spec = tie.close (tie.spec (λ c κs. search needs) (λ c κs. search needs) returns returns-2)
