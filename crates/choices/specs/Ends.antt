@@ -6,7 +6,6 @@ use Rattle.model.specs.Step.{Report, End as ModelEnd}
 use Rattle.model.specs.Step.End.{done, assertFalse, assumeFalse, failed, wantOfCells, outOfSteps, listFull}
 use Rattle.model.specs.Step.Report.{ended}
 use Rattle.machine.specs.declared.frame.Frame.{Frame}
-use Rattle.machine.specs.declared.rows.Outcome.the-variants.{AssertFalse, AssumeFalse, WantOfCells}
 use Rattle.machine.specs.View.{stateOf}
 use Rattle.choices.specs.declared.End.{End}
 use Rattle.choices.specs.declared.End.the-variants as Code

@@ -1,4 +1,4 @@
--- The record, the lent columns and the cursor of the code, seen as the model's state, store and choices.
+-- The record and the lent cells of the code, seen as the model's state.
 use Prim.Native.Nat.{ℕ, suc, _-_}
 use mathlib.Core.List.{List}
 use lib.ListN.{getD}
@@ -10,7 +10,6 @@ use Rattle.model.specs.Class.{pair}
 use Rattle.model.specs.Table.{Table, Ty, typeAt}
 use Rattle.model.specs.Table.Ty.{bool, uint, pointer}
 use Rattle.model.specs.State.{MachineKind, Value, Array, Loop, State, classed, placesIn, position}
-use Rattle.model.specs.State.MachineKind.{reduced}
 use Rattle.model.specs.State.Value.{Truth, Uint, Class, Pointer}
 use Rattle.machine.specs.declared.Machine.{Machine}
 use Rattle.machine.specs.declared.frame.Frame.{Frame}

@@ -5,7 +5,7 @@ use Prim.Native.Nat.{ℕ, zero, suc, _+_, _-_, _≤_, _<_}
 use native.Mathlib.Decide.{ℕ-discrete}
 use native.Mathlib.Omega.{arith}
 use mathlib.Core.Bool.{Bool, true, false, true≢false}
-use mathlib.Core.List.{List, [], _∷_, _++_}
+use mathlib.Core.List.{List, [], _∷_}
 use lib.ListN.{length, getD, set}
 use lib.Seq.{getD-set-same, getD-set-other}
 use lib.Dec.{ltb, leb, eqb}
@@ -25,7 +25,7 @@ use Rattle.model.specs.State.MachineKind.{reduced}
 use Rattle.model.specs.State.Value.{Truth, Uint, Class, Pointer}
 use Rattle.model.specs.Eval.{Of, Ptr, Contents, add, arrayOf, asClass, bools, cellOf, compare, eval, evalF, indexOf, isValid, keeps, load, ofType}
 use Rattle.model.specs.Eval.{present, reducedLoad, rule, sizeOf, contentsOf, subtract, sumOrDifference, uints, cellsLaid, value, variableOf}
-use Rattle.model.specs.Step.{End, Move, addArray, after, cleared, enter, laidNext, loopAt, newArray, node, past, pastEnd, put, reducedWrite}
+use Rattle.model.specs.Step.{End, Move, addArray, after, enter, laidNext, loopAt, newArray, node, past, pastEnd, put, reducedWrite}
 use Rattle.model.specs.Step.{finished, goTo, repeatLoop, rowRule, run, setVar, step, withArray, withHere, withLoops, withMemory, withVar, write}
 use Rattle.model.specs.Step.End.{done, wantOfCells, outOfSteps}
 use Rattle.model.specs.Step.Move.{to, stop}
@@ -228,8 +228,8 @@ module _ (ps : List ℕ) (m : MachineKind) (t : Table) where
     started = R .started;
     classes = λ i k e. elim (ℕ-discrete i a) [
       | yes q ↦ let g = h (subst (λ (j : ℕ). classed m t j ≡ true) q e) in
-          (g .0, g .1, ap (λ (j : ℕ). getD (set (s .vars) a v) j (Uint 0)) q ∙ getD-set-same (s .vars) a v (Uint 0) l ∙ g .2)
-      | no q ↦ let g = R .classes i k e in (g .0, g .1, getD-set-other (s .vars) a i v (Uint 0) q ∙ g .2)
+          (class ps (g .0), ap (λ (j : ℕ). getD (set (s .vars) a v) j (Uint 0)) q ∙ getD-set-same (s .vars) a v (Uint 0) l ∙ g .2, (g .0, g .1, refl))
+      | no q ↦ let g = R .classes i k e in (g .0, getD-set-other (s .vars) a i v (Uint 0) q ∙ g .1, g .2)
     ];
     few = R .few;
   }
@@ -387,6 +387,6 @@ pub fresh-regular : FreshRegular
 unfolding fresh
 fresh-regular ps m t = record {
   started = tt;
-  classes = λ i h e. (0, omega arith, at-tab (t .decls) (startOf ps m t) (Uint 0) i h ∙ rw e);
+  classes = λ i h e. (class ps 0, at-tab (t .decls) (startOf ps m t) (Uint 0) i h ∙ rw e, (0, omega arith, refl));
   few = omega arith;
 }

@@ -6,7 +6,7 @@ pub mod PairLaws
 pub mod EvalLaws
 pub mod Memory
 pub mod Nested
-pub mod Closed
+pub mod LoopsClosed
 -- the kinds of a machine, the reduction, and what the checks give
 pub mod KindsIn
 pub mod ReduceLaws

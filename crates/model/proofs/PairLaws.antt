@@ -3,9 +3,9 @@
 use mathlib.Core.Path.{_≡_, refl, sym, _∙_}
 use Prim.Native.Nat.{ℕ, zero, suc, _+_, _<_}
 use native.Mathlib.Omega.{arith}
-use mathlib.Core.Bool.{Bool, true, false, not, _&&_}
+use mathlib.Core.Bool.{Bool, true, false, not, _&&_, _||_}
 use lib.Dec.{ltb, leb, eqb}
-use borrow.Author.Tests.{ltb-true, lt-leb, le-leb, eq-eqb, ne-eqb, eqb-true, eqb-false}
+use borrow.Author.Tests.{ltb-true, lt-leb, le-leb, ne-eqb, eqb-true, eqb-false}
 use Rattle.lists.specs.If.{if_then_else_}
 use Rattle.model.specs.Table.{most}
 use Rattle.model.specs.Class.{acceptedPlaces, candidate, class, classHeld, pair, tracked}
@@ -35,11 +35,12 @@ pair-class c1 c2 h v = let l : c1 + 1 < c2 = pair-gap c1 c2 h in record {
 
 pub pair-tracked : PairTracked
 unfolding tracked
-pair-tracked c1 c2 = (rw (eq-eqb c1 c1 refl), rw (eq-eqb c2 c2 refl) (either (eqb c1 c2)))
+pair-tracked c1 c2 v = either (eqb c1 v) (eqb c2 v)
   where
-    either : (b : Bool) → (if b then true else true) ≡ true
-    either true = refl
-    either false = refl
+    either : (a b : Bool) → (if a then true else (if b then true else false)) ≡ (a || b)
+    either true b = refl
+    either false true = refl
+    either false false = refl
 
 -- the candidates are 0, c1, c1 + 1, c2 and c2 + 1
 pub pair-held : PairHeld

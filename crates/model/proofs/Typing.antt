@@ -26,7 +26,7 @@ use Rattle.model.specs.Accepted.{Accepted, allThere, isReduced, known, m
 use Rattle.model.specs.Accepted.{rowSuits, rowSuitsMark, rowThere, rowTyped, sameTy, tyNumber, typeBy, typedNode, typedRow}
 use Rattle.model.proofs.Nested.{Nested}
 use Rattle.model.proofs.KindsIn.{PlainNode, PlainRow}
-use Rattle.model.proofs.Closed.{none-open}
+use Rattle.model.proofs.LoopsClosed.{none-open}
 use Rattle.lists.proofs.BoolLaws.{and-left, and-right}
 use Rattle.model.proofs.ReduceLaws.{no-node, no-row, ty-back}
 

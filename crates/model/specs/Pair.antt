@@ -1,7 +1,7 @@
 -- What document 01 says of c1 and c2: the case of two places. Proved in proofs/PairLaws.
 use mathlib.Core.Path.{_≡_}
 use Prim.Native.Nat.{ℕ, _+_, _<_, _≤_}
-use mathlib.Core.Bool.{true, not, _&&_}
+use mathlib.Core.Bool.{true, not, _&&_, _||_}
 use lib.Dec.{ltb, leb, eqb}
 use Rattle.model.specs.Table.{most}
 use Rattle.model.specs.Class.{acceptedPlaces, class, classHeld, pair, tracked}
@@ -21,9 +21,9 @@ pub record PairClass (c1 c2 v : ℕ) : Type 0 where
 abbrev pub PairClasses : Type 0
 PairClasses = (c1 c2 : ℕ) → acceptedPlaces (pair c1 c2) ≡ true → (v : ℕ) → PairClass c1 c2 v
 
--- "both tracked circuits": the places of demand 3's cells are c1 and c2
+-- "both tracked circuits": the places of demand 3's cells are c1 and c2, and no other
 abbrev pub PairTracked : Type 0
-PairTracked = (c1 c2 : ℕ) → (tracked (pair c1 c2) c1 ≡ true) × (tracked (pair c1 c2) c2 ≡ true)
+PairTracked = (c1 c2 v : ℕ) → tracked (pair c1 c2) v ≡ (eqb c1 v || eqb c2 v)
 
 -- 15: "a class above 4 or holding no number": 0 where c1 is 0, 4 where c2 is the largest number (R26)
 abbrev pub PairHeld : Type 0

@@ -10,7 +10,7 @@ use Rattle.table.specs.declared.Verdict.{Verdict}
 use Rattle.table.specs.declared.Verdict.the-variants.{Passes, Refused}
 use Rattle.table.specs.Checks.{tableCheck, andThen, sizeCheck}
 
--- 13: "not c1 + 1 < c2", of each place and the next, at place 0
+-- 13: "not c1 + 1 < c2", of some place and the next; the refusal's place is 0
 abbrev pub placesCheck : List ℕ → Verdict
 placesCheck ps = if acceptedPlaces ps then Passes else Refused 13 0
 

@@ -1,9 +1,9 @@
 -- A record that 15 does not refuse holds a state that demand 3 speaks of, and a regular one; and the other way round.
 -- Assumes nothing.
-use Prim.Native.Nat.{ℕ, zero, suc, _+_, _≤_, _<_}
+use Prim.Native.Nat.{ℕ, zero, suc, _+_, _<_}
 use native.Mathlib.Nat.{not-suc-le-zero, le-of-suc-le-suc}
 use native.Mathlib.Omega.{arith}
-use mathlib.Core.Path.{_≡_, refl, sym, ap, _∙_, subst}
+use mathlib.Core.Path.{_≡_, refl, ap, _∙_, subst}
 use mathlib.Core.Bool.{Bool, true, false, not, false≢true}
 use mathlib.Core.List.{List, [], _∷_, map}
 use lib.ListN.{length, getD}
@@ -11,7 +11,7 @@ use lib.Dec.{leb, eqb}
 use borrow.Author.Tests.{leb-true, le-leb, eqb-true, eq-eqb, not-true}
 use Rattle.lists.specs.Tab.{all}
 use Rattle.lists.proofs.TabLaws.{all-at, all-true}
-use Rattle.model.specs.Class.{acceptedPlaces, candidate, class, classHeld}
+use Rattle.model.specs.Class.{HeldClass, acceptedPlaces, candidate, class, classHeld}
 use Rattle.model.specs.Table.{Table, Ty, openAt, typeAt, most}
 use Rattle.model.specs.Table.Ty.{bool, uint, pointer}
 use Rattle.model.specs.State.{Array, Loop, MachineKind, State, Value, classed, mostArrays}
@@ -165,14 +165,14 @@ module _ (m : MachineKind) (ps : List ℕ) (t : Table) (s : State) where
     plainArrays = kind-plain P;
   }
 
-  -- a class in the record is that of its candidate
+  -- a class in the record is held by its candidate
   class-number : Parts m ps t s → (i : ℕ) → i < t .decls → classed m t i ≡ true
-      → (n : ℕ) × (n ≤ most) × (getD (s .vars) i (Uint 0) ≡ Class (class ps n))
+      → (k : ℕ) × (getD (s .vars) i (Uint 0) ≡ Class k) × HeldClass ps k
   unfolding classHeld
   class-number P i h e =
       let c = class-value ps (getD (s .vars) i (Uint 0)) (rw e at (all-at (t .decls) (variableFits m ps t s) (P .variables) i h)) in
       let n = candidate 0 ps (c .0) in
-      (n, leb-true n most (and-left (leb n most) _ (c .2)), c .1 ∙ ap Class (sym (eqb-true (class ps n) (c .0) (and-right (leb n most) _ (c .2)))))
+      (c .0, c .1, (n, leb-true n most (and-left (leb n most) _ (c .2)), eqb-true (class ps n) (c .0) (and-right (leb n most) _ (c .2))))
 
   is-regular : Parts m ps t s → Regular ps m t s
   is-regular P = record {
@@ -186,8 +186,8 @@ module _ (m : MachineKind) (ps : List ℕ) (t : Table) (s : State) where
     fits-variable i h = go (classed m t i) refl (C .variable i h) (R .classes i h)
       where
         go : (b : Bool) → classed m t i ≡ b → Holds (classed m t i) (length (s .arrays)) (typeAt t i) (getD (s .vars) i (Uint 0))
-            → (classed m t i ≡ true → (n : ℕ) × (n ≤ most) × (getD (s .vars) i (Uint 0) ≡ Class (class ps n))) → variableFits m ps t s i ≡ true
-        go true e v r = let n = r e in rw (e, n .2) (class-held ps (places-rising ps ok) (class ps (n .0)) .1 (n .0, n .1, refl))
+            → (classed m t i ≡ true → (k : ℕ) × (getD (s .vars) i (Uint 0) ≡ Class k) × HeldClass ps k) → variableFits m ps t s i ≡ true
+        go true e v r = let k = r e in rw (e, k .1) (class-held ps (places-rising ps ok) (k .0) .1 (k .2))
         go false e v r = rw e (holds-type (length (s .arrays)) (typeAt t i) (getD (s .vars) i (Uint 0)) (rw e at v))
 
     all-fits : recordFits m ps t s ≡ true

@@ -5,7 +5,7 @@ use mathlib.Core.List.{List}
 use Rattle.table.specs.declared.Verdict.{Verdict}
 use Rattle.table.specs.declared.Verdict.the-variants.{Passes}
 use Rattle.table.specs.Checks.{tableCheck, andThen, sizeCheck}
-use Rattle.table.specs.Code.{countsOf}
+use Rattle.model.specs.Table.{count, isDeclaration, isNode, isRow}
 use Rattle.model.specs.State.{MachineKind, cellCount}
 use Rattle.model.specs.State.MachineKind.{plain, reduced}
 use Rattle.reduction.specs.Reduction.{placesCheck}
@@ -20,13 +20,13 @@ placesFor reduced ps = placesCheck ps
 unfoldable pub runChecks : MachineKind → List ℕ → List ℕ → ℕ → Verdict
 runChecks m ps t cells = andThen (tableCheck m t) (andThen (placesFor m ps) (sizeCheck cells (cellCount m)))
 
--- the frame of a table, for the machine with these places
+-- the frame of a table, with its counts of lines, for the machine with these places
 abbrev pub frameOf : List ℕ → Bool → ℕ → ℕ → Frame
 frameOf t classes c1 c2 = record {
   c1 = c1;
   c2 = c2;
   classes = classes;
-  decls = countsOf t .decls;
-  nodes = countsOf t .nodes;
-  rows = countsOf t .rows;
+  decls = count isDeclaration t;
+  nodes = count isNode t;
+  rows = count isRow t;
 }

@@ -16,11 +16,8 @@ use Rattle.runs.specs.declared.End.{End}
 use Rattle.runs.specs.declared.End.the-variants as Code
 use Rattle.runs.specs.declared.Ran.{Ran}
 use Rattle.machine.specs.View.{places, kindOf, tableFor, stateOf}
-use Prim.Native.Nat.{ℕ}
-use lib.ListN.{length}
 use Rattle.table.specs.declared.Verdict.the-variants.{Passes}
 use Rattle.model.specs.Table.{tableOf}
-use Rattle.machine.specs.View.{kindOf, tableFor}
 use Rattle.runs.specs.Checks.{runChecks}
 use Rattle.runs.specs.Ends.{reportOf}
 

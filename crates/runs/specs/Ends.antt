@@ -6,7 +6,6 @@ use Rattle.model.specs.Step.{Report, End as ModelEnd}
 use Rattle.model.specs.Step.End.{done, assertFalse, assumeFalse, failed, wantOfCells, outOfSteps, choiceNotAllowed, noChoiceLeft}
 use Rattle.model.specs.Step.Report.{ended}
 use Rattle.machine.specs.declared.frame.Frame.{Frame}
-use Rattle.machine.specs.declared.rows.Outcome.the-variants.{AssertFalse, AssumeFalse, WantOfCells}
 use Rattle.runs.specs.declared.End.{End}
 use Rattle.runs.specs.declared.End.the-variants as Code
 use Rattle.runs.specs.declared.Ran.{Ran}

@@ -18,8 +18,8 @@ use Rattle.runs.specs.RecordPromises.{CanBe}
 use Rattle.runs.specs.Answers.{Said, freshSaid, continuedSaid}
 use Rattle.runs.specs.Answers.Said.{refusal, reports}
 
--- an end of its machine, under the choices l, with a record that 15 does not refuse, so that it may be continued; the choices left are the
--- end of l, and as many are counted as stand before them
+-- an end of its machine, under the choices l, with a record that 15 does not refuse; the choices left are the end of l, and as many are
+-- counted as stand before them
 pub record EndsWell (m : MachineKind) (ps : List ℕ) (t : Table) (l : List ℕ) (e : End) (s : State) (left : List ℕ) (used : ℕ) : Type 0 where
   pub end : MachineEnd m e
   pub fits : recordFits m ps t s ≡ true
@@ -32,8 +32,8 @@ SaysEnd m ps t l (refusal number place cells) = ⊥
 SaysEnd m ps t l (reports (ended e n s left) used) = EndsWell m ps t l e s left used
 SaysEnd m ps t l (reports noEnd used) = ⊥
 
--- What a run says where its table and its places pass: 14 for cells of another size, 15 for a record that the table cannot have (Can), and an
--- end in every other case
+-- What a run says where its table and its places pass: 14 for cells of another size, 15 where Can, that the table can have the record, is
+-- false, and an end in every other case
 pub record SaysRight (m : MachineKind) (ps : List ℕ) (t : Table) (l cells : List ℕ) (Can : Type 0) (said : Said) : Type 0 where
   pub otherSize : length cells ≢ cellCount m → said ≡ refusal 14 0 cells
   pub cannot : length cells ≡ cellCount m → (Can → ⊥) → said ≡ refusal 15 0 cells
