@@ -34,10 +34,10 @@ fn open_after(nest: u32, count: usize) -> usize
     count
 }
 
-// The row that closes the loop of a row, or the row count. For the crates above, once the checks have passed: it asks for whole lines,
-// as many as the counts say, and for a row among them.
+// The row that closes the loop of a row, or the row count. For the crates above, once the checks have passed: it asks for as many lines as
+// the counts say, and for a row among them.
 pub fn matching_end(words: &[u32], counts: Counts, row: usize) -> usize
-    requires { ⌜ (length (now words) ≡ 4 * (counts .decls + counts .nodes + counts .rows)) × (row < counts .rows) ⌝ }
+    requires { ⌜ (4 * (counts .decls + counts .nodes + counts .rows) ≤ length (now words)) × (row < counts .rows) ⌝ }
     ensures { λ r. ⌜ r ≡ matchingEnd (tableBy (now (words .entry)) counts) row ⌝ }
 {
     let mut inner: usize = 0;

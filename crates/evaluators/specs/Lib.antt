@@ -1,0 +1,3 @@
+-- The evaluators: `CodeAnswers`, what an answer says and what an evaluator is lent; `CodeLeaves`, what the parts of the evaluators say.
+pub mod CodeAnswers
+pub mod CodeLeaves
