@@ -229,7 +229,25 @@ impl Machine<'_> {
         }
     }
 
+    /// A node that is a constant or a variable is answered in the place of the call.
+    #[inline(always)]
     fn uint(&mut self, n: usize) -> Result<u32, End> {
+        match self.table.nodes[n] {
+            Node::Variable(v) => Ok(self.record.numbers[v]),
+            Node::Uint(v) => Ok(v),
+            _ => self.deep_uint(n),
+        }
+    }
+
+    #[inline(always)]
+    fn pointer(&mut self, n: usize) -> Result<Pointer, End> {
+        match self.table.nodes[n] {
+            Node::Variable(v) => Ok(Pointer { base: self.record.bases[v], place: self.record.numbers[v] }),
+            _ => self.deep_pointer(n),
+        }
+    }
+
+    fn deep_uint(&mut self, n: usize) -> Result<u32, End> {
         match self.table.nodes[n] {
             Node::Variable(v) => Ok(self.record.numbers[v]),
             Node::Uint(v) => Ok(v),
@@ -265,7 +283,7 @@ impl Machine<'_> {
         }
     }
 
-    fn pointer(&mut self, n: usize) -> Result<Pointer, End> {
+    fn deep_pointer(&mut self, n: usize) -> Result<Pointer, End> {
         match self.table.nodes[n] {
             Node::Variable(v) => Ok(Pointer { base: self.record.bases[v], place: self.record.numbers[v] }),
             Node::Add(a, b) => {

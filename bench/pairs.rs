@@ -52,7 +52,25 @@ impl Writer<'_> {
         if array.reduced && !self.pair.tracks(p.place) { self.written(v) } else { Ok(v) }
     }
 
+    /// A node that is a constant or a variable is answered in the place of the call.
+    #[inline(always)]
     fn uint(&mut self, n: usize) -> Result<u32, Stop> {
+        match self.table.nodes[n] {
+            Node::Variable(v) => Ok(self.record.numbers[v]),
+            Node::Uint(v) => Ok(v),
+            _ => self.deep_uint(n),
+        }
+    }
+
+    #[inline(always)]
+    fn pointer(&mut self, n: usize) -> Result<Pointer, Stop> {
+        match self.table.nodes[n] {
+            Node::Variable(v) => Ok(Pointer { base: self.record.bases[v], place: self.record.numbers[v] }),
+            _ => self.deep_pointer(n),
+        }
+    }
+
+    fn deep_uint(&mut self, n: usize) -> Result<u32, Stop> {
         match self.table.nodes[n] {
             Node::Variable(v) => Ok(self.record.numbers[v]),
             Node::Uint(v) => Ok(v),
@@ -88,7 +106,7 @@ impl Writer<'_> {
         }
     }
 
-    fn pointer(&mut self, n: usize) -> Result<Pointer, Stop> {
+    fn deep_pointer(&mut self, n: usize) -> Result<Pointer, Stop> {
         match self.table.nodes[n] {
             Node::Variable(v) => Ok(Pointer { base: self.record.bases[v], place: self.record.numbers[v] }),
             Node::Add(a, b) => {
