@@ -50,7 +50,8 @@ none-accepted = refl
 none-left : (P : List ℕ) (report : Report) → Ends [] plain (tableOf P) [] report → (xs : List ℕ) (lent : List ℕ)
     → wroteSaid lent (withNumbers xs report) ≡ writes (withNumbers xs report) (length xs) (xs ++ drop (length xs) lent)
 none-left P (ended e n s left) h xs lent =
-    ap (λ (l : List ℕ). writes (ended e n s (xs ++ left)) (length l) (l ++ drop (length l) lent)) (ap (λ (l : List ℕ). xs ++ l) (leaves-plain (h .2)) ∙ append-nil xs)
+    ap (λ (l : List ℕ). writes (ended e n s (xs ++ left)) (length l) (l ++ drop (length l) lent))
+    (ap (λ (l : List ℕ). xs ++ l) (leaves-plain (h .2)) ∙ append-nil xs)
 none-left P noEnd h xs lent = absurd h
 
 module _ (ps : List ℕ) (ok : placesCheck ps ≡ Passes) (P : List ℕ) (p : tableCheck plain P ≡ Passes) where
@@ -78,7 +79,8 @@ module _ (ps : List ℕ) (ok : placesCheck ps ≡ Passes) (P : List ℕ) (p : ta
   unfolding freshSaid
   reduced-says cells choices limit n = rw (reduced-checks cells n)
 
-  writer-says : (cells lent : List ℕ) (limit : ℕ) → length cells ≡ cellCount plain → writerSaid ps P cells lent limit ≡ wroteSaid lent (writerRun ps P limit (length lent))
+  writer-says : (cells lent : List ℕ) (limit : ℕ) → length cells ≡ cellCount plain
+      → writerSaid ps P cells lent limit ≡ wroteSaid lent (writerRun ps P limit (length lent))
   unfolding writerSaid
   writer-says cells lent limit n = rw (writer-checks cells n)
 

@@ -2,7 +2,6 @@
 -- Assumes nothing.
 use mathlib.Core.Path.{_≡_, refl, sym, ap, _∙_, subst}
 use Prim.Native.Nat.{ℕ, _≤_, _<_}
-use native.Mathlib.Omega.{arith as numbers}
 use mathlib.Core.Bool.{false}
 use mathlib.Core.List.{List, [], _++_}
 use lib.ListN.{length, take, drop, replicate, take-append-drop}
@@ -23,15 +22,15 @@ use Rattle.model.specs.Writer.{writer}
 use Rattle.model.specs.Demand3.{writerRun}
 use Rattle.reduction.specs.Reduction.{placesCheck}
 use Rattle.machine.specs.declared.Machine.{Machine}
-use Rattle.machine.specs.declared.frame.Frame.{Frame}
-use Rattle.machine.specs.View.{places, kindOf, tableFor, stateOf, varsOf}
-use Rattle.machine.specs.CodeFresh.{freshVars}
+use Rattle.prepared.specs.declared.Frame.{Frame}
+use Rattle.prepared.specs.View.{places, kindOf, tableFor}
+use Rattle.machine.specs.View.{stateOf}
+use Rattle.machine.specs.CodeFresh.{freshRecord}
 use Rattle.runs.specs.Checks.{frameOf, runChecks}
 use Rattle.runs.proofs.LendLaws.{lends, ready-fresh, state-fresh}
-use Rattle.recording.specs.CodeRecords.{pairOf}
-use Rattle.choices.specs.declared.Wrote.{Wrote}
-use Rattle.choices.specs.declared.Answered.{Answered}
-use Rattle.choices.specs.CodeSteps.{Begins, Writes}
+use Rattle.runs.specs.declared.Ran.{Ran}
+use Rattle.runs.specs.declared.Answered.{Answered}
+use Rattle.choices.specs.CodeSteps.{Begins, Writes, WriterWrites}
 use Rattle.choices.specs.Checks.{writerChecks}
 use Rattle.choices.specs.Answers.{saidOf, wroteSaid, writerSaid}
 use Rattle.choices.specs.Answers.Said.{writes}
@@ -64,19 +63,19 @@ module _ (ps t : List ℕ) (size : ℕ) where
       rw (a .0, b .1)
 
 -- ---- a report, its numbers and the rest of the list
-written-said : (t : List ℕ) (f : Frame) (r : Wrote) (cells list lent : List ℕ) (report : Report) → Writes t f r cells list lent report
-    → writes (reportOf t f r cells list) (r .count) list ≡ wroteSaid lent report
+written-said : (t : List ℕ) (f : Frame) (r : Ran) (cells list lent : List ℕ) (report : Report) → Writes t f r cells list lent report
+    → writes (reportOf t f r cells list) (r .used) list ≡ wroteSaid lent report
 written-said t f r cells list lent report W =
-    let n : length (take (r .count) list) ≡ r .count = length-take-le (r .count) list (W .within) in
-    let l : list ≡ take (r .count) list ++ drop (length (take (r .count) list)) lent
-    = sym (take-append-drop (r .count) list) ∙ ap (λ (x : List ℕ). take (r .count) list ++ x) (W .kept)
-        ∙ ap (λ (k : ℕ). take (r .count) list ++ drop k lent) (sym n) in
+    let n : length (take (r .used) list) ≡ r .used = length-take-le (r .used) list (W .within) in
+    let l : list ≡ take (r .used) list ++ drop (length (take (r .used) list)) lent
+    = sym (take-append-drop (r .used) list) ∙ ap (λ (x : List ℕ). take (r .used) list ++ x) (W .kept)
+        ∙ ap (λ (k : ℕ). take (r .used) list ++ drop k lent) (sym n) in
     ap (λ (k : ℕ). writes (reportOf t f r cells list) k list) (sym n)
-    ∙ ap (writes (reportOf t f r cells list) (length (take (r .count) list))) l
+    ∙ ap (writes (reportOf t f r cells list) (length (take (r .used) list))) l
     ∙ ap (wroteSaid lent) (W .report)
 
 -- ---- the start
-module _ (t cells₀ : List ℕ) (c1 c2 : ℕ) (v : Verdict) (q : v ≡ writerChecks (pair c1 c2) t (length cells₀)) (p : v ≡ Passes) (f : Frame)
+module _ (t cells₀ : List ℕ) (c1 c2 : ℕ) {v : Verdict} (q : v ≡ writerChecks (pair c1 c2) t (length cells₀)) (p : v ≡ Passes) {f : Frame}
     (i : f ≡ frameOf t false c1 c2) where
   passed : runChecks plain [] t (length cells₀) ≡ Passes
   passed = plain-passes (pair c1 c2) t (length cells₀) (sym q ∙ p)
@@ -84,46 +83,45 @@ module _ (t cells₀ : List ℕ) (c1 c2 : ℕ) (v : Verdict) (q : v ≡ writerCh
   pub lent : Lends t f cells₀
   lent = lends t cells₀ false c1 c2 (sym passed) refl i
 
-  shallow : (n : ℕ) → n < f .nodes → depth (tableFor t f) n ≤ mostDepth
+  shallow : (n : ℕ) → n < f .counts .nodes → depth (tableFor t f) n ≤ mostDepth
   shallow =
       subst (λ (T : Table). (n : ℕ) → n < T .nodes → depth T n ≤ mostDepth) (sym (lent .framed))
       (node-depth plain t (passing plain t (table-passes (pair c1 c2) t (length cells₀) (sym q ∙ p))))
 
   -- a fresh record, in cells that are all zero
-  module _ (m : Machine) (cells : List ℕ) (row : m .row ≡ 0) (none : m .open ≡ 0) (count : m .count ≡ 0)
-      (vars : varsOf t f (m .numbers) (m .bases) ≡ freshVars t f) (zeros : cells ≡ replicate (length cells₀) 0) where
+  module _ {m : Machine} {cells : List ℕ} (begun : m ≡ freshRecord t f) (zeros : cells ≡ replicate (length cells₀) 0) where
     pub begins : Begins t f m cells
+    unfolding freshRecord
     begins = record {
-      ready = ready-fresh t f cells₀ lent m cells row none count vars zeros;
-      plain = record { plain = ap (λ (f : Frame). f .classes) i };
+      ready = ready-fresh t f cells₀ lent m cells begun zeros;
+      plain = ap (λ (f : Frame). f .classes) i;
       shallow = shallow;
-      none = count;
+      none = ap (λ (m : Machine). m .count) begun;
     }
 
     fresh-is : stateOf t f m cells ≡ fresh [] plain (tableOf t)
     unfolding places
     fresh-is =
-        state-fresh t f cells₀ lent m cells row none count vars zeros
+        state-fresh t f cells₀ lent m cells begun zeros
         ∙ subst (λ (g : Frame). fresh (places g) (kindOf g) (tableFor t f) ≡ fresh [] plain (tableFor t f)) (sym i) refl
         ∙ ap (λ (T : Table). fresh [] plain T) (lent .framed)
 
-    writer-is : (limit room : ℕ) → writer (pairOf f) (tableFor t f) limit 0 [] (stateOf t f m cells) room ≡ writerRun (pair c1 c2) t limit room
+    writer-is : (limit room : ℕ) → writer (pair (f .c1) (f .c2)) (tableFor t f) limit 0 [] (stateOf t f m cells) room ≡ writerRun (pair c1 c2) t limit room
     writer-is limit room =
-        ap (λ (s : State). writer (pairOf f) (tableFor t f) limit 0 [] s room) fresh-is
-        ∙ ap (λ (T : Table). writer (pairOf f) T limit 0 [] (fresh [] plain (tableOf t)) room) (lent .framed)
-        ∙ ap (λ (g : Frame). writer (pairOf g) (tableOf t) limit 0 [] (fresh [] plain (tableOf t)) room) i
+        ap (λ (s : State). writer (pair (f .c1) (f .c2)) (tableFor t f) limit 0 [] s room) fresh-is
+        ∙ ap (λ (T : Table). writer (pair (f .c1) (f .c2)) T limit 0 [] (fresh [] plain (tableOf t)) room) (lent .framed)
+        ∙ ap (λ (g : Frame). writer (pair (g .c1) (g .c2)) (tableOf t) limit 0 [] (fresh [] plain (tableOf t)) room) i
 
     -- what the loop handed back
-    pub said-writes : (list₀ list cells′ : List ℕ) (limit : ℕ) (a : Answered) (r : Wrote) → a .verdict ≡ Passes → a .wrote ≡ r
-        → Writes t f r cells′ list list₀ (writer (pairOf f) (tableFor t f) limit 0 [] (stateOf t f m cells) (length list₀))
+    pub said-writes : (list₀ : List ℕ) (limit : ℕ) {list cells′ : List ℕ} {a : Answered} {r : Ran} → a .verdict ≡ Passes → a .ran ≡ r
+        → WriterWrites t f m cells list₀ limit r cells′ list
         → saidOf t (frameOf t false c1 c2) a cells′ list ≡ writerSaid (pair c1 c2) t cells₀ list₀ limit
     unfolding writerSaid
-    said-writes list₀ list cells′ limit a r u w W =
-        let here : saidOf t (frameOf t false c1 c2) a cells′ list ≡ writes (reportOf t f r cells′ list) (r .count) list = rw (u, w, i) in
+    said-writes list₀ limit {list} {cells′} {a} {r} u w W =
+        let here : saidOf t (frameOf t false c1 c2) a cells′ list ≡ writes (reportOf t f r cells′ list) (r .used) list = rw (u, w, i) in
         here ∙ written-said t f r cells′ list list₀ _ W ∙ ap (wroteSaid list₀) (writer-is limit (length list₀)) ∙ rw (← q, p)
 
-pub said-refused : (t cells list : List ℕ) (c1 c2 limit : ℕ) (v : Verdict) → v ≡ writerChecks (pair c1 c2) t (length cells) → {number place : ℕ}
-    → v ≡ Refused number place
-    → (a : Answered) → a .verdict ≡ v → saidOf t (frameOf t false c1 c2) a cells list ≡ writerSaid (pair c1 c2) t cells list limit
+pub said-refused : (t cells list : List ℕ) (c1 c2 limit : ℕ) {v : Verdict} → v ≡ writerChecks (pair c1 c2) t (length cells) → {number place : ℕ}
+    → v ≡ Refused number place → (a : Answered) → a .verdict ≡ v → saidOf t (frameOf t false c1 c2) a cells list ≡ writerSaid (pair c1 c2) t cells list limit
 unfolding writerSaid
-said-refused t cells list c1 c2 limit v q e a w = rw (w, ← q, e)
+said-refused t cells list c1 c2 limit q e a w = rw (w, ← q, e)

@@ -1,85 +1,86 @@
 -- The loop of the choice writer: what is left of the writer is all of it, from where the record stands, after the numbers written so far.
 -- Assumes nothing.
 use mathlib.Core.Path.{_≡_, refl, sym, ap, _∙_, subst}
-use Prim.Native.Nat.{ℕ, zero, suc, _+_, _-_, _*_, _≤_, _<_}
-use native.Mathlib.Omega.{arith as numbers}
+use Prim.Native.Nat.{ℕ, zero, suc, _+_, _-_, _≤_, _<_}
+use native.Mathlib.Omega.{arith}
 use native.Mathlib.Numerals.{add-one}
-use mathlib.Core.Bool.{Bool, true, false}
+use mathlib.Core.Bool.{Bool}
 use mathlib.Core.List.{List, [], _∷_, _++_, append-assoc, append-nil}
-use lib.ListN.{length, getD, set, take, drop}
-use lib.Seq.{paste, take-paste, drop-paste, length-paste, take-append-seam, drop-drop, getD-set-same, getD-set-other}
-use lib.Dec.{eqb}
+use lib.ListN.{length, take, drop, length-set}
+use lib.Seq.{paste, take-paste, drop-paste, length-paste, take-append-seam, drop-drop}
 use borrow.Author.Tests.{le-leb, lt-leb}
 use types.Run.{OneOf, miss}
 use denote.Enum.Declared.{tagOf}
-use Rattle.choices.specs.Ends.{endOf}
-use Rattle.lists.specs.If.{if_then_else_}
 use Rattle.lists.specs.Tab.{tab, listed}
-use Rattle.lists.proofs.TabLaws.{tab-snoc, same-tab}
-use Rattle.table.specs.Checks.{machineOf}
-use Rattle.model.specs.Table.{Table, rowAt, Row, rowKind, marked, markedPointer}
-use Rattle.model.specs.Work.{Out}
-use Rattle.model.specs.Work.Out.{gives, fails, badChoice, noChoice, stuck}
 use Rattle.model.specs.Class.{pair}
-use Rattle.model.specs.State.{MachineKind, State, placesIn}
-use Rattle.model.specs.State.MachineKind.{plain}
-use Rattle.model.specs.Step.{Move, Report, after, finished, run, step}
+use Rattle.model.specs.Table.{Table, rowAt, rowKind}
+use Rattle.model.specs.Work.{Out}
+use Rattle.model.specs.Work.Out.{gives}
+use Rattle.model.specs.State.{State}
+use Rattle.model.specs.Step.{Move as ModelMove, Report, finished, step}
 use Rattle.model.specs.Step.End.{done, outOfSteps, listFull}
 use Rattle.model.specs.Step.Move.{to}
 use Rattle.model.specs.Step.Report.{ended, noEnd}
-use Rattle.model.specs.Accepted.{Accepted, CanHave}
-use Rattle.model.specs.Demand3.{Ends}
 use Rattle.model.specs.Writer.{heldAfter, heldNext, stepChoices, withNumbers, writer, writes}
-use Rattle.model.specs.Table.Row.{skip, assign, store, assert, assume, array, loop, loopEnd, reducedStore, reducedArray, classLoop, noRow}
-use Rattle.model.proofs.SafeStep.{never-stuck}
-use Rattle.model.proofs.KindsIn.{PlainRow}
 use Rattle.model.proofs.Typing.{plain-rows}
+use Rattle.model.proofs.Memory.{cleared-length}
+use Rattle.prepared.specs.declared.Frame.{Frame}
+use Rattle.prepared.specs.View.{places, kindOf, tableFor}
+use Rattle.prepared.specs.Own.{Own}
+use Rattle.prepared.proofs.SameLaws.{own-same}
+use Rattle.evaluators.specs.CodeAnswers.{failed}
+use Rattle.evaluators.specs.declared.answers.Failure.{Failure}
+use Rattle.evaluators.specs.declared.answers.Failure.the-variants.{Fails, BadChoice, NoChoice, Stuck}
+use Rattle.evaluators.proofs.answers.Failure.{the-type as failure}
+use Rattle.evaluators.proofs.ViewLaws.{count-arrays}
 use Rattle.machine.specs.declared.Machine.{Machine}
-use Rattle.machine.specs.declared.frame.Frame.{Frame}
-use Rattle.machine.proofs.rows.Outcome.{the-type as outcome}
-use Rattle.machine.specs.declared.rows.Outcome.{Outcome}
-use Rattle.machine.specs.declared.rows.Outcome.the-variants.{Goes, AssertFalse, AssumeFalse, WantOfCells, Fails, BadChoice, NoChoice, Stuck}
-use Rattle.machine.specs.View.{places, kindOf, tableFor, stateOf}
-use Rattle.machine.proofs.ViewLaws.{count-arrays}
-use Rattle.machine.specs.CodeRows.{moveOut, outcomeOut, Unmoved, Still}
-use Rattle.runs.specs.CodeSteps.{Ready}
-use Rattle.runs.specs.RecordPromises.{CanBe}
-use Rattle.runs.proofs.RunLaws.{going-on, run-next}
-use Rattle.runs.proofs.GoingLaws.{arrays-most}
-use Rattle.recording.specs.CodePushes.{Pushed, pushed, pushAll}
+use Rattle.machine.specs.declared.Move.{Move}
+use Rattle.machine.specs.declared.Move.the-variants.{Goes, Puts, Writes, Lays, Enters, Leaves}
+use Rattle.machine.specs.declared.End.{End}
+use Rattle.machine.specs.declared.End.the-variants as Code
+use Rattle.machine.specs.declared.Worked.{Worked}
+use Rattle.machine.specs.declared.Worked.the-variants.{Moves, Ends, Not}
+use Rattle.machine.proofs.Worked.{the-type as worked}
+use Rattle.machine.specs.View.{endOf, stateOf}
+use Rattle.machine.specs.CodeMoves.{stepOf, cellsOf, moveOut, Can, Sized}
+use Rattle.recording.specs.CodePushes.{Pushed, pushed}
+use Rattle.recording.specs.CodeRecords.{heldOf}
+use Rattle.recording.specs.CodeMoves.{StepRecords}
 use Rattle.recording.proofs.PushLaws.{push-fits}
-use Rattle.recording.specs.CodeRecords.{pairOf, heldOf}
-use Rattle.recording.specs.declared.rows.Numbers.{Numbers}
-use Rattle.recording.specs.declared.rows.Numbers.the-variants.{Count, Stuck as NoNumbers}
-use Rattle.recording.specs.CodeRows.{NoEnd, Counted}
-use Rattle.choices.specs.declared.Wrote.{Wrote}
-use Rattle.choices.specs.declared.End.{End}
+use Rattle.runs.specs.declared.Ran.{Ran}
+use Rattle.runs.specs.CodeSteps.{Ready, ran}
+use Rattle.runs.specs.RecordPromises.{CanBe}
+use Rattle.runs.proofs.RunLaws.{going-on}
+use Rattle.runs.proofs.GoingLaws.{arrays-most}
+use Rattle.runs.proofs.ReadyLaws.{step-bounds, sized-step}
+use Rattle.choices.specs.declared.steps.Numbers.the-variants.{Count, NoEnd}
+use Rattle.choices.specs.CodeSteps.{Begins, failedCount, countOf, heldWith, stoppedOf, WriterWrites}
 use Rattle.choices.proofs.ArrayLaws.{arraysAfter, step-arrays}
 use Rattle.choices.proofs.BoundLaws.{step-most}
-use Rattle.choices.specs.declared.End.the-variants as Code
-use Rattle.choices.specs.CodeSteps.{Begins, wrote, stoppedOf, Writes}
+use Rattle.choices.proofs.HeldLaws.{held-next, held-length}
+use Rattle.choices.proofs.CopyLaws.{Uncounted, no-places, accepted-plain, always-counted, row-is, goes-on, numbers-are}
 
--- what stands for an outcome that a plain step does not have, and for a failure
-pub other-stop : (o : Outcome) (n at : ℕ) (m : Machine) → OneOf (0 ∷ 4 ∷ 5 ∷ 6 ∷ 7 ∷ []) (tagOf outcome o) → wrote Code.Fail (suc n) at m ≡ stoppedOf o n at m
-other-stop (Goes nx) n at m h = refl
-other-stop (AssertFalse nx) n at m h = absurd (miss (0 ∷ 4 ∷ 5 ∷ 6 ∷ 7 ∷ []) 1 tt h)
-other-stop (AssumeFalse nx) n at m h = absurd (miss (0 ∷ 4 ∷ 5 ∷ 6 ∷ 7 ∷ []) 2 tt h)
-other-stop (WantOfCells nx) n at m h = absurd (miss (0 ∷ 4 ∷ 5 ∷ 6 ∷ 7 ∷ []) 3 tt h)
-other-stop (Fails nx) n at m h = refl
-other-stop BadChoice n at m h = refl
-other-stop NoChoice n at m h = refl
-other-stop Stuck n at m h = refl
+-- ---- what stands for the failures that a plain step does not have, and for a row that did not go on to an end
+pub other-count : (why : Failure) (n : ℕ) → OneOf (1 ∷ 2 ∷ 3 ∷ []) (tagOf failure why) → NoEnd ≡ failedCount why n
+other-count Fails n h = absurd (miss (1 ∷ 2 ∷ 3 ∷ []) 0 tt h)
+other-count BadChoice n h = refl
+other-count NoChoice n h = refl
+other-count Stuck n h = refl
 
--- the flag of a row's variable
-module _ (t : List ℕ) (f : Frame) (row : ℕ) {a : ℕ} {b : Bool} (e : a ≡ getD t (4 * (f .decls + f .nodes + row) + 1) 0) (h : b ≡ marked t 3 a) where
-  marked-is : markedPointer (tableFor t f) (rowAt (tableFor t f) row .a) ≡ b
-  marked-is = ap (marked t 3) (sym e) ∙ sym h
+pub other-stop : (w : Worked) (n at : ℕ) (m : Machine) → OneOf (0 ∷ 2 ∷ []) (tagOf worked w) → ran Code.Fail (suc n) at m ≡ stoppedOf w n at m
+other-stop (Moves x next) n at m h = refl
+other-stop (Ends e next) n at m h = absurd (miss (0 ∷ 2 ∷ []) 1 tt h)
+other-stop (Not why next) n at m h = refl
 
-  pub flag-marked : b ≡ true → _≡_ {A = ℕ} 1 (if markedPointer (tableFor t f) (rowAt (tableFor t f) row .a) then 1 else 0)
-  flag-marked q = rw (marked-is, q)
-
-  pub flag-unmarked : b ≡ false → _≡_ {A = ℕ} 0 (if markedPointer (tableFor t f) (rowAt (tableFor t f) row .a) then 1 else 0)
-  flag-unmarked q = rw (marked-is, q)
+-- ---- a step keeps as many cells
+cells-kept : (count : ℕ) (cells : List ℕ) (x : Move) → Can count (length cells) x → length (cellsOf cells x) ≡ length cells
+unfolding cellsOf
+cells-kept count cells Goes h = refl
+cells-kept count cells (Puts a v base) h = refl
+cells-kept count cells (Writes i v) h = length-set cells i v
+cells-kept count cells (Lays a first len size reduced) h = cleared-length first size cells (h .2)
+cells-kept count cells (Enters a v row depth from upto) h = refl
+cells-kept count cells (Leaves a v depth next) h = refl
 
 -- ---- reports with numbers
 numbers-none : (r : Report) → withNumbers [] r ≡ r
@@ -107,337 +108,267 @@ module _ (ps : List ℕ) (t : Table) (n : ℕ) (ks : List Bool) (s : State) (roo
       unfolding writer finished
       write-full g = rw (lt-leb (t .rows) (s .here .row) h, lt-leb (length (stepChoices ps t ks s (s .here .row))) room g)
 
-      write-next : {o : Out Move} → length (stepChoices ps t ks s (s .here .row)) ≤ room → step [] t s [] ≡ o
+      write-next : {o : Out ModelMove} → length (stepChoices ps t ks s (s .here .row)) ≤ room → step [] t s [] ≡ o
           → writer ps t (suc k) n ks s room
           ≡ writes n s (stepChoices ps t ks s (s .here .row)) o
               (λ s′. writer ps t k (suc n) (heldNext t (s .here .row) ks) s′ (room - length (stepChoices ps t ks s (s .here .row))))
       unfolding writer finished
       write-next g e = rw (lt-leb (t .rows) (s .here .row) h, le-leb (length (stepChoices ps t ks s (s .here .row))) room g, e)
 
--- ---- a plain step takes no choice, and is never stuck
-pub plain-ends : (t : Table) → Accepted plain t → (s : State) → CanHave [] plain t s → s .here .row < t .rows → NoEnd (step [] t s []) → ⊥
-plain-ends t A s C h = go (step [] t s []) refl
-  where
-    first : Ends [] plain t [] (run [] t 1 0 s [])
-    first = never-stuck [] plain t A s C 1 []
+-- ---- where the writer stands
+abbrev whole : List ℕ → Frame → ℕ → ℕ → List Bool → Machine → List ℕ → ℕ → Report
+whole t f k n ks m cells room = writer (pair (f .c1) (f .c2)) (tableFor t f) k n ks (stateOf t f m cells) room
 
-    by : {o : Out Move} → step [] t s [] ≡ o → Ends [] plain t [] (after 0 s [] o (run [] t 0 1))
-    by e = subst (Ends [] plain t []) (run-next [] t 0 s [] h 0 e) first
+-- after some steps: the numbers up to `at` are written, and the rest of the list is as it was lent
+pub record Left (t : List ℕ) (f : Frame) (lent : List ℕ) (limit : ℕ) (m₀ : Machine) (cs₀ : List ℕ) (m : Machine) (cells list held : List ℕ)
+    (at steps : ℕ) : Type 0 where
+  pub ready : Ready t f m cells
+  pub sized : Sized m
+  pub upto : steps ≤ limit
+  pub within : at ≤ length list
+  pub size : length list ≡ length lent
+  pub kept : drop at list ≡ drop at lent
+  pub column : length held ≡ 16
+  pub same : withNumbers (take at list) (whole t f (limit - steps) steps (heldOf (m .count) held) m cells (length lent - at))
+      ≡ whole t f limit 0 [] m₀ cs₀ (length lent)
 
-    go : (o : Out Move) → step [] t s [] ≡ o → NoEnd o → ⊥
-    go (gives m cs) e z = z
-    go (fails cs) e z = z
-    go badChoice e z = by e .0
-    go noChoice e z = by e .0
-    go stuck e z = by e
+-- before the first step
+pub left-all : (t : List ℕ) (f : Frame) (lent : List ℕ) (limit : ℕ) (m : Machine) (cells held : List ℕ) → Begins t f m cells → Sized m
+    → length held ≡ 16 → Left t f lent limit m cells m cells lent held 0 0
+unfolding heldOf tab listed
+left-all t f lent limit m cells held B Z h = record {
+  ready = B .ready;
+  sized = Z;
+  upto = omega arith;
+  within = omega arith;
+  size = refl;
+  kept = refl;
+  column = h;
+  same =
+      numbers-none (whole t f (limit - 0) 0 (heldOf (m .count) held) m cells (length lent - 0))
+      ∙ ap (λ (n : ℕ). whole t f (limit - 0) 0 (heldOf n held) m cells (length lent - 0)) (B .none)
+      ∙ ap (λ (k : ℕ). whole t f k 0 [] m cells (length lent - 0)) (let z : limit - 0 ≡ limit = omega arith in z)
+      ∙ ap (λ (k : ℕ). whole t f limit 0 [] m cells k) (let z : length lent - 0 ≡ length lent = omega arith in z);
+}
 
--- ---- which arrays the reduced run holds reduced, after a row that goes on
-held-more : (count : ℕ) (held : List ℕ) (flag : ℕ) → count < length held → heldOf (suc count) (set held count flag) ≡ heldOf count held ++ (eqb flag 1 ∷ [])
-unfolding heldOf
-held-more count held flag h =
-    tab-snoc count (λ i. eqb (getD (set held count flag) i 0) 1)
-    ∙ ap (λ (l : List Bool). l ++ (eqb (getD (set held count flag) count 0) 1 ∷ []))
-    (same-tab count (λ i. eqb (getD (set held count flag) i 0) 1) (λ i. eqb (getD held i 0) 1)
-        (λ i l. ap (λ (v : ℕ). eqb v 1) (getD-set-other held count i flag 0 (λ z. omega (numbers, z, l)))))
-    ∙ ap (λ (v : ℕ). tab count (λ i. eqb (getD held i 0) 1) ++ (eqb v 1 ∷ [])) (getD-set-same held count flag 0 h)
+module _ {t : List ℕ} {f : Frame} {lent : List ℕ} {limit : ℕ} {m₀ : Machine} {cs₀ : List ℕ} {m : Machine} {cells list held : List ℕ} {at steps : ℕ}
+    (L : Left t f lent limit m₀ cs₀ m cells list held at steps) where
+  -- an end before the next step
+  hands : (e : End) (r : Ran) → r ≡ ran e steps at m
+      → whole t f (limit - steps) steps (heldOf (m .count) held) m cells (length lent - at) ≡ ended (endOf e) steps (stateOf t f m cells) []
+      → WriterWrites t f m₀ cs₀ lent limit r cells list
+  hands e r q h = subst (λ (r : Ran). WriterWrites t f m₀ cs₀ lent limit r cells list) (sym q) (record {
+    report = ap (ended (endOf e) steps (stateOf t f m cells)) (sym (append-nil (take at list))) ∙ ap (withNumbers (take at list)) (sym h) ∙ L .same;
+    within = L .within;
+    kept = L .kept;
+  })
 
-held-same : (count : ℕ) (held : List ℕ) (flag : ℕ) → heldOf count (set held count flag) ≡ heldOf count held
-unfolding heldOf
-held-same count held flag =
-    same-tab count (λ i. eqb (getD (set held count flag) i 0) 1) (λ i. eqb (getD held i 0) 1)
-        (λ i l. ap (λ (v : ℕ). eqb v 1) (getD-set-other held count i flag 0 (λ z. omega (numbers, z, l))))
+  pub left-done : f .counts .rows ≤ m .row → (r : Ran) → r ≡ ran Code.Done steps at m → WriterWrites t f m₀ cs₀ lent limit r cells list
+  left-done h r q =
+      hands Code.Done r q
+      (write-done (pair (f .c1) (f .c2)) (tableFor t f) steps (heldOf (m .count) held) (stateOf t f m cells) (length lent - at) (limit - steps) h)
 
-flag-is : (q : Bool) → eqb (if q then 1 else 0) 1 ≡ q
-flag-is true = refl
-flag-is false = refl
+  pub left-out : m .row < f .counts .rows → steps ≡ limit → (r : Ran) → r ≡ ran Code.OutOfSteps steps at m
+      → WriterWrites t f m₀ cs₀ lent limit r cells list
+  left-out inside e r q =
+      hands Code.OutOfSteps r q
+      (ap (λ (k : ℕ). whole t f k steps (heldOf (m .count) held) m cells (length lent - at)) (let z : limit - steps ≡ 0 = omega arith in z)
+      ∙ write-out (pair (f .c1) (f .c2)) (tableFor t f) steps (heldOf (m .count) held) (stateOf t f m cells) (length lent - at) inside)
 
-module _ (t : Table) (a : ℕ) (q : Bool) (count : ℕ) (held : List ℕ) where
-  unmade : (c : ℕ) → c ≡ count → heldOf c (set held count (if q then 1 else 0)) ≡ heldOf count held
-  unmade c e = ap (λ (n : ℕ). heldOf n (set held count (if q then 1 else 0))) e ∙ held-same count held (if q then 1 else 0)
+-- ---- a row was recorded there
+pub record Recorded (t : List ℕ) (f : Frame) (lent : List ℕ) (limit : ℕ) (m₀ : Machine) (cs₀ : List ℕ) (m : Machine) (cells list held : List ℕ)
+    (at steps : ℕ) (own buffer : List ℕ) (w : Worked) (numbers : List ℕ) : Type 0 where
+  pub begins : Begins t f m₀ cs₀
+  pub copy : Own t f own
+  pub left : Left t f lent limit m₀ cs₀ m cells list held at steps
+  pub inside : m .row < f .counts .rows
+  pub more : steps < limit
+  pub sized : length buffer ≡ 8192
+  pub kept : length numbers ≡ 8192
+  pub row : StepRecords own m cells held w buffer numbers
 
-  -- the column was marked at the place of a new array
-  held-marked : (k : Row) → PlainRow t k a → (count′ : ℕ) → count′ ≡ arraysAfter k count → count < length held
-      → heldOf count′ (set held count (if q then 1 else 0)) ≡ heldAfter k q (heldOf count held)
-  held-marked skip p c e h = unmade c e
-  held-marked assign p c e h = unmade c e
-  held-marked store p c e h = unmade c e
-  held-marked assert p c e h = unmade c e
-  held-marked assume p c e h = unmade c e
-  held-marked array p c e h =
-      ap (λ (n : ℕ). heldOf n (set held count (if q then 1 else 0))) e ∙ held-more count held (if q then 1 else 0) h
-      ∙ ap (λ (b : Bool). heldOf count held ++ (b ∷ [])) (flag-is q)
-  held-marked loop p c e h = unmade c e
-  held-marked loopEnd p c e h = unmade c e
-  held-marked reducedStore p c e h = absurd p
-  held-marked reducedArray p c e h = absurd p
-  held-marked classLoop p c e h = absurd p
-  held-marked noRow p c e h = unmade c e
+module _ {t : List ℕ} {f : Frame} {lent : List ℕ} {limit : ℕ} {m₀ : Machine} {cs₀ : List ℕ} {m : Machine} {cells list held : List ℕ} {at steps : ℕ}
+    {own buffer : List ℕ} {w : Worked} {numbers : List ℕ} (K : Recorded t f lent limit m₀ cs₀ m cells list held at steps own buffer w numbers) where
+  abbrev table : Table
+  table = tableFor t f
 
-  -- there was no place for it, and no array
-  held-unmarked : (k : Row) → PlainRow t k a → (count′ : ℕ) → count′ ≡ arraysAfter k count → count′ ≤ count
-      → heldOf count′ held ≡ heldAfter k q (heldOf count held)
-  held-unmarked skip p c e h = ap (λ (n : ℕ). heldOf n held) e
-  held-unmarked assign p c e h = ap (λ (n : ℕ). heldOf n held) e
-  held-unmarked store p c e h = ap (λ (n : ℕ). heldOf n held) e
-  held-unmarked assert p c e h = ap (λ (n : ℕ). heldOf n held) e
-  held-unmarked assume p c e h = ap (λ (n : ℕ). heldOf n held) e
-  held-unmarked array p c e h = absurd (omega (numbers, e, h))
-  held-unmarked loop p c e h = ap (λ (n : ℕ). heldOf n held) e
-  held-unmarked loopEnd p c e h = ap (λ (n : ℕ). heldOf n held) e
-  held-unmarked reducedStore p c e h = absurd p
-  held-unmarked reducedArray p c e h = absurd p
-  held-unmarked classLoop p c e h = absurd p
-  held-unmarked noRow p c e h = ap (λ (n : ℕ). heldOf n held) e
+  abbrev ps : List ℕ
+  ps = pair (f .c1) (f .c2)
 
--- the numbers that a row has
-pub counted : (c : Numbers) (o : Out Move) (xs out : List ℕ) (p : Pushed) {n : ℕ} → Counted c o xs out p → c ≡ Count n → pushed out n ≡ pushAll xs p
-unfolding Counted
-counted c o xs out p C e = subst (λ (c : Numbers). Counted c o xs out p) e C
+  abbrev ks : List Bool
+  ks = heldOf (m .count) held
 
-module _ (t : List ℕ) (f : Frame) where
-  abbrev whole : ℕ → ℕ → List Bool → Machine → List ℕ → ℕ → Report
-  whole k n ks m cells room = writer (pairOf f) (tableFor t f) k n ks (stateOf t f m cells) room
+  abbrev here : State
+  here = stateOf t f m cells
 
-  -- ---- where the writer stands after some steps: the numbers up to `at` are written, and the rest of the list is as it was lent
-  pub record Left (lent : List ℕ) (limit : ℕ) (m₀ : Machine) (cs₀ : List ℕ) (m : Machine) (cells list held : List ℕ) (at steps : ℕ) : Type 0 where
-    pub begins : Begins t f m₀ cs₀
-    pub ready : Ready t f m cells
-    pub upto : steps ≤ limit
-    pub within : at ≤ length list
-    pub size : length list ≡ length lent
-    pub kept : drop at list ≡ drop at lent
-    pub column : length held ≡ 16
-    pub same : withNumbers (take at list) (whole (limit - steps) steps (heldOf (m .count) held) m cells (length lent - at))
-        ≡ whole limit 0 [] m₀ cs₀ (length lent)
+  abbrev xs : List ℕ
+  xs = stepChoices ps table ks here (m .row)
 
-  pub left-all : (lent : List ℕ) (limit : ℕ) (m : Machine) (cells held : List ℕ) → Begins t f m cells → length held ≡ 16
-      → Left lent limit m cells m cells lent held 0 0
-  unfolding heldOf tab listed
-  left-all lent limit m cells held B h = record {
-    begins = B;
-    ready = B .ready;
-    upto = omega numbers;
-    within = omega numbers;
-    size = refl;
-    kept = refl;
-    column = h;
-    same =
-        numbers-none (whole (limit - 0) 0 (heldOf (m .count) held) m cells (length lent - 0))
-        ∙ ap (λ (n : ℕ). whole (limit - 0) 0 (heldOf n held) m cells (length lent - 0)) (B .none)
-        ∙ ap (λ (k : ℕ). whole k 0 [] m cells (length lent - 0)) (let z : limit - 0 ≡ limit = omega numbers in z)
-        ∙ ap (λ (k : ℕ). whole limit 0 [] m cells k) (let z : length lent - 0 ≡ length lent = omega numbers in z);
-  }
+  L : Left t f lent limit m₀ cs₀ m cells list held at steps
+  L = K .left
 
-  module _ (lent : List ℕ) (limit : ℕ) (m₀ : Machine) (cs₀ : List ℕ) (m : Machine) (cells list held : List ℕ) (at steps : ℕ)
-      (L : Left lent limit m₀ cs₀ m cells list held at steps) where
-    abbrev all-of : Report
-    all-of = whole limit 0 [] m₀ cs₀ (length lent)
+  row-comes-to : step [] table here [] ≡ moveOut own m cells [] w
+  row-comes-to = row-is t f (K .begins .plain) m cells (L .ready) own (K .copy) (K .inside) held buffer numbers w (K .row)
 
-    abbrev ks : List Bool
-    ks = heldOf (m .count) held
+  -- no plain step is stuck, nor for want of a choice
+  never : (w : Worked) → step [] table here [] ≡ moveOut own m cells [] w → Uncounted (countOf w) → ⊥
+  never = always-counted t f (K .begins .plain) m cells (L .ready) own (K .copy) (K .inside)
 
-    abbrev here : State
-    here = stateOf t f m cells
+  pub never-uncounted : countOf w ≡ NoEnd → ⊥
+  never-uncounted q = never w row-comes-to (subst Uncounted (sym q) tt)
 
-    -- an end before the next step
-    hands : (e : End) (r : Wrote) → r ≡ wrote e steps at m → whole (limit - steps) steps ks m cells (length lent - at) ≡ ended (endOf e) steps here []
-        → Writes t f r cells list lent all-of
-    hands e r q h = subst (λ (r : Wrote). Writes t f r cells list lent all-of) (sym q) (record {
-      report = ap (ended (endOf e) steps here) (sym (append-nil (take at list))) ∙ ap (withNumbers (take at list)) (sym h) ∙ L .same;
-      within = L .within;
-      kept = L .kept;
-    })
+  one-left : limit - steps ≡ suc (limit - suc steps)
+  one-left = let u = K .more in omega arith
 
-    pub left-done : f .rows ≤ m .row → (r : Wrote) → r ≡ wrote Code.Done steps at m → Writes t f r cells list lent all-of
-    left-done h r q = hands Code.Done r q (write-done (pairOf f) (tableFor t f) steps ks here (length lent - at) (limit - steps) h)
+  -- its step is within its bounds
+  pub bounds : {x : Move} {next : ℕ} → w ≡ Moves x next → (m .row < 256) × Can (m .count) (length cells) x
+  bounds q = step-bounds t f own (K .copy) m cells (L .ready) (K .inside) [] 0 (K .row .works) q
 
-    module _ (inside : m .row < f .rows) where
-      pub left-out : steps ≡ limit → (r : Wrote) → r ≡ wrote Code.OutOfSteps steps at m → Writes t f r cells list lent all-of
-      left-out e r q =
-          hands Code.OutOfSteps r q
-          (ap (λ (k : ℕ). whole k steps ks m cells (length lent - at)) (let z : limit - steps ≡ 0 = omega (numbers, e) in z)
-          ∙ write-out (pairOf f) (tableFor t f) steps ks here (length lent - at) inside)
+  -- ---- its numbers, of which there are n
+  module _ {n : ℕ} (q : countOf w ≡ Count n) where
+    few : length xs ≤ 8192
+    few = step-most ps table ks here (K .begins .shallow) (m .row)
 
-      kind-plain : kindOf f ≡ plain
-      kind-plain = ap machineOf (L .begins .plain .plain)
+    exact : pushed numbers n ≡ pushed (xs ++ drop (0 + length xs) buffer) (0 + length xs)
+    exact =
+        numbers-are t f (K .begins .plain) m cells (L .ready) own (K .copy) (K .inside) held buffer numbers w (K .row) q
+        ∙ push-fits xs buffer 0 (let h = few in let s = K .sized in omega arith)
 
-      no-places : places f ≡ []
-      unfolding places
-      no-places = ap (λ (k : MachineKind). placesIn k (pair (f .c1) (f .c2))) kind-plain
+    count-is : n ≡ length xs
+    count-is = ap (λ (p : Pushed). p .at) exact ∙ (let z : 0 + length xs ≡ length xs = omega arith in z)
 
-      accepted-plain : Accepted plain (tableFor t f)
-      accepted-plain = subst (λ (k : MachineKind). Accepted k (tableFor t f)) kind-plain (L .ready .accepted)
+    taken : take n numbers ≡ xs
+    taken =
+        ap (λ (k : ℕ). take k numbers) count-is ∙ ap (λ (p : Pushed). take (length xs) (p .buffer)) exact
+        ∙ take-append-seam xs (drop (0 + length xs) buffer)
 
-      no-end : NoEnd (step [] (tableFor t f) here []) → ⊥
-      no-end =
-          plain-ends (tableFor t f) accepted-plain here
-          (subst (λ (k : MachineKind). CanHave [] k (tableFor t f) here) kind-plain
-              (subst (λ (ps : List ℕ). CanHave ps (kindOf f) (tableFor t f) here) no-places (L .ready .can))) inside
+    pub few-numbers : n ≤ length numbers
+    few-numbers = let h = few in let e = count-is in let s = K .kept in omega arith
 
-      -- no plain step is stuck, nor for want of a choice
-      pub stuck-never : {A : Type 0} (c : Numbers) (xs out : List ℕ) (p : Pushed) → Counted c (step [] (tableFor t f) here []) xs out p → c ≡ NoNumbers → A
-      unfolding Counted
-      stuck-never c xs out p C e = absurd (no-end (subst (λ (c : Numbers). Counted c (step [] (tableFor t f) here []) xs out p) e C))
+    pub left-full : length list - at < n → (r : Ran) → r ≡ ran Code.ListFull steps at m → WriterWrites t f m₀ cs₀ lent limit r cells list
+    left-full h r e =
+        hands L Code.ListFull r e
+        (ap (λ (k : ℕ). whole t f k steps ks m cells (length lent - at)) one-left
+        ∙ write-full ps table steps ks here (length lent - at) (K .inside) (limit - suc steps) (let c = count-is in let z = L .size in omega arith))
 
-      -- the numbers of the next step, of which there are n
-      module _ (u : steps < limit) (nums₀ nums : List ℕ) (n : ℕ) (sized : length nums₀ ≡ 8192)
-          (C : pushed nums n ≡ pushAll (stepChoices (pairOf f) (tableFor t f) ks here (m .row)) (pushed nums₀ 0)) where
-        abbrev xs : List ℕ
-        xs = stepChoices (pairOf f) (tableFor t f) ks here (m .row)
+    -- ---- ... which fit
+    module _ (fits : n ≤ length list - at) where
+      pub inside-list : at + n ≤ length list
+      inside-list = let h = L .within in omega arith
 
-        few : length xs ≤ 8192
-        few = step-most (pairOf f) (tableFor t f) ks here (L .begins .shallow) (m .row)
+      by-step : {o : Out ModelMove} → step [] table here [] ≡ o
+          → withNumbers (take at list)
+              (writes steps here xs o
+              (λ s′. writer ps table (limit - suc steps) (suc steps) (heldNext table (m .row) ks) s′ (length lent - at - length xs)))
+          ≡ whole t f limit 0 [] m₀ cs₀ (length lent)
+      by-step e =
+          ap (withNumbers (take at list))
+              (sym (write-next ps table steps ks here (length lent - at) (K .inside) (limit - suc steps)
+              (let c = count-is in let z = L .size in omega arith) e))
+          ∙ ap (λ (k : ℕ). withNumbers (take at list) (whole t f k steps ks m cells (length lent - at))) (sym one-left) ∙ L .same
 
-        exact : pushed nums n ≡ pushed (xs ++ drop (0 + length xs) nums₀) (0 + length xs)
-        exact = C ∙ push-fits xs nums₀ 0 (let h = few in omega (numbers, h, sized))
+      -- ---- ... and are copied into the list
+      module _ (list′ : List ℕ) (pasted : list′ ≡ paste list at numbers n) where
+        numbers-written : take (at + n) list′ ≡ take at list ++ xs
+        numbers-written =
+            ap (take (at + n)) pasted ∙ take-paste list at numbers n (L .within) few-numbers ∙ ap (λ (l : List ℕ). take at list ++ l) taken
 
-        count-is : n ≡ length xs
-        count-is = ap (λ (p : Pushed). p .at) exact ∙ (let z : 0 + length xs ≡ length xs = omega numbers in z)
+        rest-kept : drop (at + n) list′ ≡ drop (at + n) lent
+        rest-kept =
+            ap (drop (at + n)) pasted ∙ drop-paste list at numbers n (L .within) few-numbers
+            ∙ sym (drop-drop n at list) ∙ ap (drop n) (L .kept) ∙ drop-drop n at lent
 
-        taken : take n nums ≡ xs
-        taken = ap (λ (k : ℕ). take k nums) count-is ∙ ap (λ (p : Pushed). take (length xs) (p .buffer)) exact
-            ∙ take-append-seam xs (drop (0 + length xs) nums₀)
+        same-size : length list′ ≡ length list
+        same-size = ap length pasted ∙ length-paste list at numbers n inside-list few-numbers
 
-        pub few-numbers : n ≤ 8192
-        few-numbers = let h = few in let e = count-is in omega (numbers, h, e)
+        still-within : at + n ≤ length list′
+        still-within = let i = inside-list in let s = same-size in omega arith
 
-        one-left : limit - steps ≡ suc (limit - suc steps)
-        one-left = omega (numbers, u)
+        -- the row ends the run
+        pub left-stop : OneOf (1 ∷ 2 ∷ []) (tagOf worked w) → (r : Ran) → r ≡ stoppedOf w steps (at + n) m
+            → WriterWrites t f m₀ cs₀ lent limit r cells list′
+        unfolding moveOut failed
+        left-stop h r e = subst (λ (r : Ran). WriterWrites t f m₀ cs₀ lent limit r cells list′) (sym e) (go w row-comes-to h)
+          where
+            stop-at : (c : End) → ended (endOf c) (suc steps) here (take at list ++ xs) ≡ whole t f limit 0 [] m₀ cs₀ (length lent)
+                → WriterWrites t f m₀ cs₀ lent limit (ran c (suc steps) (at + n) m) cells list′
+            stop-at c z = record {
+              report = ap (ended (endOf c) (suc steps) here) numbers-written ∙ z;
+              within = still-within;
+              kept = rest-kept;
+            }
 
-        pub left-full : length list - at < n → (r : Wrote) → r ≡ wrote Code.ListFull steps at m → Writes t f r cells list lent all-of
-        left-full h r q =
-            hands Code.ListFull r q
-            (ap (λ (k : ℕ). whole k steps ks m cells (length lent - at)) one-left
-            ∙ write-full (pairOf f) (tableFor t f) steps ks here (length lent - at) inside (limit - suc steps)
-                (let e = count-is in let z = L .size in omega (numbers, h, e, z)))
+            go : (w : Worked) → step [] table here [] ≡ moveOut own m cells [] w → OneOf (1 ∷ 2 ∷ []) (tagOf worked w)
+                → WriterWrites t f m₀ cs₀ lent limit (stoppedOf w steps (at + n) m) cells list′
+            go (Moves x next) e h = absurd (miss (1 ∷ 2 ∷ []) 0 tt h)
+            go (Ends c next) e h = stop-at c (by-step e)
+            go (Not Fails next) e h = stop-at Code.Fail (by-step e)
+            go (Not BadChoice next) e h = absurd (never (Not BadChoice next) e tt)
+            go (Not NoChoice next) e h = absurd (never (Not NoChoice next) e tt)
+            go (Not Stuck next) e h = absurd (never (Not Stuck next) e tt)
 
-        -- ... which are copied into the list
-        module _ (fits : n ≤ length list - at) (long : length nums ≡ 8192) (list′ : List ℕ) (pasted : list′ ≡ paste list at nums n) where
-          inside-list : at + n ≤ length list
-          inside-list = let w = L .within in omega (numbers, fits, w)
+        -- the run goes on
+        module _ {x : Move} {next : ℕ} (moves : w ≡ Moves x next) (m′ : Machine) (cells′ : List ℕ) (em : m′ ≡ stepOf m x) (ec : cells′ ≡ cellsOf cells x)
+            where
+          pub same-cells : length cells′ ≡ length cells
+          same-cells = ap length ec ∙ cells-kept (m .count) cells x (bounds moves .1)
 
-          short : n ≤ length nums
-          short = let h = few-numbers in omega (numbers, h, long)
+          goes-to : step [] table here [] ≡ gives (to (stateOf t f m′ cells′)) (drop next [])
+          goes-to =
+              goes-on t f (K .begins .plain) m cells (L .ready) own (K .copy) (K .inside) held buffer numbers w (K .row) moves
+              ∙ rw (em, ec)
 
-          numbers-are : take (at + n) list′ ≡ take at list ++ xs
-          numbers-are = ap (take (at + n)) pasted ∙ take-paste list at nums n (L .within) short ∙ ap (λ (l : List ℕ). take at list ++ l) taken
-
-          rest-is : drop (at + n) list′ ≡ drop (at + n) lent
-          rest-is =
-              ap (drop (at + n)) pasted ∙ drop-paste list at nums n (L .within) short
-              ∙ sym (drop-drop n at list) ∙ ap (drop n) (L .kept) ∙ drop-drop n at lent
-
-          size-is : length list′ ≡ length list
-          size-is = ap length pasted ∙ length-paste list at nums n inside-list short
-
-          by-step : {o : Out Move} → step [] (tableFor t f) here [] ≡ o
-              → withNumbers (take at list)
-                  (writes steps here xs o
-                  (λ s′. writer (pairOf f) (tableFor t f) (limit - suc steps) (suc steps) (heldNext (tableFor t f) (m .row) ks) s′
-                  (length lent - at - length xs))) ≡ all-of
-          by-step e =
-              ap (withNumbers (take at list))
-                  (sym (write-next (pairOf f) (tableFor t f) steps ks here (length lent - at) inside (limit - suc steps)
-                  (let c = count-is in let z = L .size in omega (numbers, fits, c, z)) e))
-              ∙ ap (λ (k : ℕ). withNumbers (take at list) (whole k steps ks m cells (length lent - at))) (sym one-left) ∙ L .same
-
-          module _ (m′ : Machine) (cells′ : List ℕ) (o : Outcome) (e : moveOut t f m′ cells′ [] o ≡ step (places f) (tableFor t f) here []) where
-            plainly : moveOut t f m′ cells′ [] o ≡ step [] (tableFor t f) here []
-            plainly = e ∙ ap (λ (ps : List ℕ). step ps (tableFor t f) here []) no-places
-
-            pub left-stop : Unmoved o m′ m cells′ cells → OneOf (1 ∷ 2 ∷ 3 ∷ 4 ∷ 5 ∷ 6 ∷ 7 ∷ []) (tagOf outcome o) → (r : Wrote)
-                → r ≡ stoppedOf o steps (at + n) m′
-                → Writes t f r cells′ list′ lent all-of
-            unfolding outcomeOut Still
-            left-stop v h r q = subst (λ (r : Wrote). Writes t f r cells′ list′ lent all-of) (sym q) (go o plainly v h)
-              where
-                unmoved : (m′ ≡ m) × (cells′ ≡ cells) → stateOf t f m′ cells′ ≡ here
-                unmoved v = ap (λ (m : Machine). stateOf t f m cells′) (v .0) ∙ ap (λ (cs : List ℕ). stateOf t f m cs) (v .1)
-
-                stop-at : (c : End) → (m′ ≡ m) × (cells′ ≡ cells) → ended (endOf c) (suc steps) here (take at list ++ xs) ≡ all-of
-                    → Writes t f (wrote c (suc steps) (at + n) m′) cells′ list′ lent all-of
-                stop-at c v z = record {
-                  report = ap (λ (s : State). ended (endOf c) (suc steps) s (take (at + n) list′)) (unmoved v)
-                      ∙ ap (ended (endOf c) (suc steps) here) numbers-are ∙ z;
-                  within = let i = inside-list in let s = size-is in omega (numbers, i, s);
-                  kept = rest-is;
-                }
-
-                go : (o : Outcome) → moveOut t f m′ cells′ [] o ≡ step [] (tableFor t f) here [] → Unmoved o m′ m cells′ cells
-                    → OneOf (1 ∷ 2 ∷ 3 ∷ 4 ∷ 5 ∷ 6 ∷ 7 ∷ []) (tagOf outcome o)
-                    → Writes t f (stoppedOf o steps (at + n) m′) cells′ list′ lent all-of
-                go (Goes nx) e v h = absurd (miss (1 ∷ 2 ∷ 3 ∷ 4 ∷ 5 ∷ 6 ∷ 7 ∷ []) 0 tt h)
-                go (AssertFalse nx) e v h = stop-at Code.AssertFalse v (by-step (sym e))
-                go (AssumeFalse nx) e v h = stop-at Code.AssumeFalse v (by-step (sym e))
-                go (WantOfCells nx) e v h = stop-at Code.WantOfCells v (by-step (sym e))
-                go (Fails nx) e v h = stop-at Code.Fail v (by-step (sym e))
-                go BadChoice e v h = absurd (no-end (subst NoEnd e tt))
-                go NoChoice e v h = absurd (no-end (subst NoEnd e tt))
-                go Stuck e v h = absurd (no-end (subst NoEnd e tt))
-
-            module _ (nx : ℕ) (q : o ≡ Goes nx) (kept : length cells′ ≡ length cells) where
-              goes : step [] (tableFor t f) here [] ≡ gives (to (stateOf t f m′ cells′)) (drop nx [])
-              unfolding outcomeOut
-              goes = sym plainly ∙ ap (moveOut t f m′ cells′ []) q
-
-              next-ready : Ready t f m′ cells′
-              next-ready =
-                  let g : CanBe (kindOf f) (places f) (tableFor t f) here = record { can = L .ready .can; regular = L .ready .regular } in
-                  let e′ : step (places f) (tableFor t f) here []
-                      ≡ gives (to (stateOf t f m′ cells′)) (drop nx []) = ap (λ (ps : List ℕ). step ps (tableFor t f) here []) no-places ∙ goes in
-                  let G = going-on (places f) (kindOf f) (tableFor t f) (L .ready .accepted) here g inside [] tt (stateOf t f m′ cells′) (drop nx []) e′ in
-                  let z = L .ready .room in
-                  record {
-                    accepted = L .ready .accepted;
-                    laid = L .ready .laid;
-                    few = L .ready .few;
-                    can = G .can;
-                    regular = G .regular;
-                    room = omega (numbers, kept, z);
-                  }
-
-              count-next : m′ .count ≡ arraysAfter (rowKind (rowAt (tableFor t f) (m .row) .kind)) (m .count)
-              count-next =
-                  sym (count-arrays (m′ .count) (m′ .firsts) (m′ .lengths) (m′ .shapes)) ∙ step-arrays [] (tableFor t f) here [] goes
-                  ∙ ap (arraysAfter (rowKind (rowAt (tableFor t f) (m .row) .kind))) (count-arrays (m .count) (m .firsts) (m .lengths) (m .shapes))
-
-              pub held-set : {flag : ℕ} → m .count < 16 → flag ≡ (if markedPointer (tableFor t f) (rowAt (tableFor t f) (m .row) .a) then 1 else 0)
-                  → heldOf (m′ .count) (set held (m .count) flag) ≡ heldNext (tableFor t f) (m .row) ks
-              held-set h e =
-                  ap (λ (v : ℕ). heldOf (m′ .count) (set held (m .count) v)) e
-                  ∙ held-marked (tableFor t f) (rowAt (tableFor t f) (m .row) .a) (markedPointer (tableFor t f) (rowAt (tableFor t f) (m .row) .a))
-                      (m .count) held
-                  (rowKind (rowAt (tableFor t f) (m .row) .kind)) (plain-rows (tableFor t f) accepted-plain (m .row)) (m′ .count) count-next
-                      (let c = L .column in omega (numbers, h, c))
-
-              pub held-kept : 16 ≤ m .count → heldOf (m′ .count) held ≡ heldNext (tableFor t f) (m .row) ks
-              held-kept h =
-                  held-unmarked (tableFor t f) (rowAt (tableFor t f) (m .row) .a) (markedPointer (tableFor t f) (rowAt (tableFor t f) (m .row) .a))
-                      (m .count) held
-                  (rowKind (rowAt (tableFor t f) (m .row) .kind)) (plain-rows (tableFor t f) accepted-plain (m .row)) (m′ .count) count-next
-                  (let g = arrays-most t f m′ cells′ (places f) (kindOf f) (next-ready .can) (next-ready .regular) in omega (numbers, h, g))
-
-              pub left-again : (held′ : List ℕ) → length held′ ≡ 16 → heldOf (m′ .count) held′ ≡ heldNext (tableFor t f) (m .row) ks
-                  → Left lent limit m₀ cs₀ m′ cells′ list′ held′ (at + n) (steps + 1)
-              left-again held′ c z = record {
-                begins = L .begins;
-                ready = next-ready;
-                upto = omega (numbers, u);
-                within = let i = inside-list in let s = size-is in omega (numbers, i, s);
-                size = size-is ∙ L .size;
-                kept = rest-is;
-                column = c;
-                same =
-                    ap (λ (l : List ℕ). withNumbers l
-                        (whole (limit - (steps + 1)) (steps + 1) (heldOf (m′ .count) held′) m′ cells′ (length lent - (at + n)))) numbers-are
-                    ∙ sym (numbers-twice (take at list) xs
-                        (whole (limit - (steps + 1)) (steps + 1) (heldOf (m′ .count) held′) m′ cells′ (length lent - (at + n))))
-                    ∙ ap (λ (l : List Bool). withNumbers (take at list)
-                        (withNumbers xs (whole (limit - (steps + 1)) (steps + 1) l m′ cells′ (length lent - (at + n))))) z
-                    ∙ ap (λ (k : ℕ). withNumbers (take at list)
-                        (withNumbers xs (whole (limit - (steps + 1)) (steps + 1) (heldNext (tableFor t f) (m .row) ks) m′ cells′ k)))
-                        (let c = count-is in let w : length lent - (at + n) ≡ length lent - at - length xs = omega (numbers, c) in w)
-                    ∙ ap (λ (k : ℕ). withNumbers (take at list)
-                        (withNumbers xs (whole (limit - k) k (heldNext (tableFor t f) (m .row) ks) m′ cells′ (length lent - at - length xs)))) (add-one steps)
-                    ∙ by-step goes;
+          next-ready : Ready t f m′ cells′
+          next-ready =
+              let g : CanBe (kindOf f) (places f) table here = record { can = L .ready .can; regular = L .ready .regular } in
+              let e : step (places f) table here [] ≡ gives (to (stateOf t f m′ cells′)) (drop next [])
+                  = ap (λ (ps : List ℕ). step ps table here []) (no-places t f (K .begins .plain) m cells (L .ready)) ∙ goes-to in
+              let G = going-on (places f) (kindOf f) table (L .ready .accepted) here g (K .inside) [] tt (stateOf t f m′ cells′) (drop next []) e in
+              let z = L .ready .room in
+              let s = same-cells in
+              record {
+                accepted = L .ready .accepted;
+                laid = L .ready .laid;
+                few = L .ready .few;
+                can = G .can;
+                regular = G .regular;
+                room = omega arith;
               }
+
+          count-next : m′ .count ≡ arraysAfter (rowKind (rowAt table (m .row) .kind)) (m .count)
+          count-next =
+              sym (count-arrays (m′ .count) (m′ .firsts) (m′ .lengths) (m′ .shapes)) ∙ step-arrays [] table here [] goes-to
+              ∙ ap (arraysAfter (rowKind (rowAt table (m .row) .kind))) (count-arrays (m .count) (m .firsts) (m .lengths) (m .shapes))
+
+          module _ (held′ : List ℕ) (eh : held′ ≡ heldWith own (m .count) (m .row) held) where
+            held-is : heldOf (m′ .count) held′ ≡ heldNext table (m .row) ks
+            held-is =
+                ap (heldOf (m′ .count)) eh
+                ∙ held-next own (m .count) (m .row) held table (rowAt table (m .row) .a) (rowKind (rowAt table (m .row) .kind))
+                    (plain-rows table (accepted-plain t f (K .begins .plain) m cells (L .ready)) (m .row)) (m′ .count) count-next
+                    (arrays-most t f m′ cells′ (places f) (kindOf f) (next-ready .can) (next-ready .regular)) (L .column)
+                ∙ ap (λ (q : Bool). heldAfter (rowKind (rowAt table (m .row) .kind)) q ks)
+                    (own-same t f own (L .ready .laid) (kindOf f) (L .ready .accepted) (K .copy) .heldNext (m .row) (K .inside))
+
+            pub left-again : Left t f lent limit m₀ cs₀ m′ cells′ list′ held′ (at + n) (steps + 1)
+            left-again = record {
+              ready = next-ready;
+              sized = subst Sized (sym em) (sized-step m x (L .sized));
+              upto = let u = K .more in omega arith;
+              within = still-within;
+              size = same-size ∙ L .size;
+              kept = rest-kept;
+              column = ap length eh ∙ held-length own (m .count) (m .row) held ∙ L .column;
+              same =
+                  ap (λ (l : List ℕ). withNumbers l (from (steps + 1) (heldOf (m′ .count) held′) (length lent - (at + n)))) numbers-written
+                  ∙ sym (numbers-twice (take at list) xs (from (steps + 1) (heldOf (m′ .count) held′) (length lent - (at + n))))
+                  ∙ ap (λ (l : List Bool). withNumbers (take at list) (withNumbers xs (from (steps + 1) l (length lent - (at + n))))) held-is
+                  ∙ ap (λ (k : ℕ). withNumbers (take at list) (withNumbers xs (from (steps + 1) (heldNext table (m .row) ks) k)))
+                      (let c = count-is in let z : length lent - (at + n) ≡ length lent - at - length xs = omega arith in z)
+                  ∙ ap (λ (k : ℕ). withNumbers (take at list) (withNumbers xs (from k (heldNext table (m .row) ks) (length lent - at - length xs))))
+                      (add-one steps)
+                  ∙ by-step goes-to;
+            }
+              where
+                from : ℕ → List Bool → ℕ → Report
+                from n ks room = whole t f (limit - n) n ks m′ cells′ room

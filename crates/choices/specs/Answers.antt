@@ -8,8 +8,8 @@ use Rattle.table.specs.declared.Verdict.the-variants.{Passes, Refused}
 use Rattle.model.specs.Step.{Report}
 use Rattle.model.specs.Step.Report.{ended, noEnd}
 use Rattle.model.specs.Demand3.{writerRun}
-use Rattle.machine.specs.declared.frame.Frame.{Frame}
-use Rattle.choices.specs.declared.Answered.{Answered}
+use Rattle.prepared.specs.declared.Frame.{Frame}
+use Rattle.runs.specs.declared.Answered.{Answered}
 use Rattle.choices.specs.Checks.{writerChecks}
 
 -- a refusal, with its number and place, the cells and the list at exit; or a report, which has end, steps, the record, the cells at exit and
@@ -25,7 +25,7 @@ saidBy (Refused number place) cells list said = refusal number place cells list
 
 -- an answer, with the cells and the list at exit
 abbrev pub saidOf : List ℕ → Frame → Answered → List ℕ → List ℕ → Said
-saidOf t f a cells list = saidBy (a .verdict) cells list (writes (reportOf t f (a .wrote) cells list) (a .wrote .count) list)
+saidOf t f a cells list = saidBy (a .verdict) cells list (writes (reportOf t f (a .ran) cells list) (a .ran .used) list)
 
 -- the numbers of the writer's report
 abbrev pub numbersOf : Report → List ℕ

@@ -1,46 +1,72 @@
 -- The code's own words: what the loop of the choice writer is lent, and how it stops.
 use mathlib.Core.Path.{_≡_}
 use Prim.Native.Nat.{ℕ, suc, _<_, _≤_}
-use mathlib.Core.List.{List}
-use lib.ListN.{length, drop}
+use mathlib.Core.List.{List, []}
+use lib.ListN.{length, drop, set}
+use lib.Dec.{ltb}
+use Rattle.lists.specs.If.{if_then_else_}
+use Rattle.model.specs.Table.{markedPointer, rowAt}
+use Rattle.prepared.specs.Own.{ownTable}
 use Rattle.table.specs.Rules.{depth, mostDepth}
+use Rattle.model.specs.Class.{pair}
 use Rattle.model.specs.Step.{Report}
+use Rattle.model.specs.Writer.{writer}
 use Rattle.machine.specs.declared.Machine.{Machine}
-use Rattle.machine.specs.declared.frame.Frame.{Frame}
-use Rattle.machine.specs.declared.rows.Outcome.{Outcome}
-use Rattle.machine.specs.declared.rows.Outcome.the-variants.{Goes, AssertFalse, AssumeFalse, WantOfCells, Fails, BadChoice, NoChoice, Stuck}
-use Rattle.machine.specs.View.{tableFor}
-use Rattle.runs.specs.CodeSteps.{Ready}
-use Rattle.recording.specs.CodeRecords.{Plain}
-use Rattle.choices.specs.declared.End.{End}
-use Rattle.choices.specs.declared.End.the-variants as Code
-use Rattle.choices.specs.declared.Wrote.{Wrote}
+use Rattle.prepared.specs.declared.Frame.{Frame}
+use Rattle.prepared.specs.View.{tableFor}
+use Rattle.machine.specs.View.{stateOf}
+use Rattle.runs.specs.CodeSteps.{Ready, ran}
+use mathlib.Core.Bool.{false}
+use Rattle.machine.specs.declared.Worked.{Worked}
+use Rattle.machine.specs.declared.Worked.the-variants.{Moves, Ends, Not}
+use Rattle.evaluators.specs.declared.answers.Failure.{Failure}
+use Rattle.evaluators.specs.declared.answers.Failure.the-variants.{Fails, BadChoice, NoChoice, Stuck}
+use Rattle.choices.specs.declared.steps.Numbers.{Numbers}
+use Rattle.choices.specs.declared.steps.Numbers.the-variants.{Count, NoEnd}
+use Rattle.machine.specs.declared.End.the-variants as Code
+use Rattle.runs.specs.declared.Ran.{Ran}
 use Rattle.choices.specs.Ends.{reportOf}
 
 -- a plain table that passes its checks, and a record with no arrays
 pub record Begins (t : List ℕ) (f : Frame) (m : Machine) (cells : List ℕ) : Type 0 where
   pub ready : Ready t f m cells
-  pub plain : Plain f
-  pub shallow : (n : ℕ) → n < f .nodes → depth (tableFor t f) n ≤ mostDepth
+  pub plain : f .classes ≡ false
+  pub shallow : (n : ℕ) → n < f .counts .nodes → depth (tableFor t f) n ≤ mostDepth
   pub none : m .count ≡ 0
 
-abbrev pub wrote : End → ℕ → ℕ → Machine → Wrote
-wrote e n at m = record { end = e; steps = n; count = at; machine = m }
+-- ---- which arrays the reduced run holds reduced (R28): what is kept of the array that a row makes, at the place of the next array
+abbrev pub flagOf : List ℕ → ℕ → ℕ
+flagOf own row = if markedPointer (ownTable own) (rowAt (ownTable own) row .a) then 1 else 0
+
+unfoldable pub heldWith : List ℕ → ℕ → ℕ → List ℕ → List ℕ
+heldWith own count row held = if ltb count 16 then set held count (flagOf own row) else held
+
+-- how many numbers a row has
+abbrev pub failedCount : Failure → ℕ → Numbers
+failedCount Fails n = Count n
+failedCount BadChoice n = NoEnd
+failedCount NoChoice n = NoEnd
+failedCount Stuck n = NoEnd
+
+abbrev pub countOf : Worked → Numbers
+countOf (Moves x n) = Count n
+countOf (Ends e n) = Count n
+countOf (Not why n) = failedCount why n
 
 -- A row that does not go on, after n steps, with the numbers up to `at` written: "A step that ends a run counts"; "its used choices count".
 -- A plain step takes no choice and is never stuck, and none that goes on is asked of, so what stands for those is never handed back.
-abbrev pub stoppedOf : Outcome → ℕ → ℕ → Machine → Wrote
-stoppedOf (Goes next) n at m = wrote Code.Fail (suc n) at m
-stoppedOf (AssertFalse next) n at m = wrote Code.AssertFalse (suc n) at m
-stoppedOf (AssumeFalse next) n at m = wrote Code.AssumeFalse (suc n) at m
-stoppedOf (WantOfCells next) n at m = wrote Code.WantOfCells (suc n) at m
-stoppedOf (Fails next) n at m = wrote Code.Fail (suc n) at m
-stoppedOf BadChoice n at m = wrote Code.Fail (suc n) at m
-stoppedOf NoChoice n at m = wrote Code.Fail (suc n) at m
-stoppedOf Stuck n at m = wrote Code.Fail (suc n) at m
+abbrev pub stoppedOf : Worked → ℕ → ℕ → Machine → Ran
+stoppedOf (Moves x next) n at m = ran Code.Fail (suc n) at m
+stoppedOf (Ends e next) n at m = ran e (suc n) at m
+stoppedOf (Not why next) n at m = ran Code.Fail (suc n) at m
 
 -- what is handed back is a report; its numbers are in the list, and "the rest of the list is kept"
-pub record Writes (t : List ℕ) (f : Frame) (r : Wrote) (cells list lent : List ℕ) (said : Report) : Type 0 where
+pub record Writes (t : List ℕ) (f : Frame) (r : Ran) (cells list lent : List ℕ) (said : Report) : Type 0 where
   pub report : reportOf t f r cells list ≡ said
-  pub within : r .count ≤ length list
-  pub kept : drop (r .count) list ≡ drop (r .count) lent
+  pub within : r .used ≤ length list
+  pub kept : drop (r .used) list ≡ drop (r .used) lent
+
+-- ... of the writer from a record on, with a limit
+abbrev pub WriterWrites : List ℕ → Frame → Machine → List ℕ → List ℕ → ℕ → Ran → List ℕ → List ℕ → Type 0
+WriterWrites t f m cells lent limit r cells′ list =
+    Writes t f r cells′ list lent (writer (pair (f .c1) (f .c2)) (tableFor t f) limit 0 [] (stateOf t f m cells) (length lent))

@@ -1,22 +1,27 @@
 // Which arrays the reduced run holds reduced.
-use lists::word_or_zero;
-use machine::frame::Frame;
-use machine::steps::row_word;
+use machine::Machine;
+use machine::loops::row_word;
 use table::marks::is_marked;
 ghost use mathlib.Core.Path.{_≡_};
-ghost use Prim.Native.Nat.{_≤_};
-ghost use Rattle.lists.specs.If.{if_then_else_};
-ghost use Rattle.model.specs.Table.{rowAt, markedPointer};
-ghost use Rattle.machine.specs.View.{tableFor};
+ghost use Rattle.choices.specs.CodeSteps.{flagOf, heldWith};
 
-// 1 if the variable of a row is a marked pointer, else 0: what is kept of the array that the row makes, if it makes one.
-pub fn flag_of(t: &[u32], f: Frame, row: u32) -> u8
-    requires { ⌜ (f .decls ≤ 32) × (f .nodes ≤ 1024) ⌝ }
-    ensures { λ r. ⌜ r ≡ (if markedPointer (tableFor (now (t .entry)) f) (rowAt (tableFor (now (t .entry)) f) row .a) then 1 else 0) ⌝ }
+// 1 if the variable of a row is a marked pointer, else 0.
+fn flag_of(own: &[u32; 5256], row: u32) -> u8
+    ensures { λ r. ⌜ r ≡ flagOf (now (own .entry)) row ⌝ }
 {
-    let a = row_word(t, f, row, 1);
-    if is_marked(t, 3, a) {
+    let a = row_word(own, row, 1);
+    if is_marked(own, 3, a) {
         return 1;
     }
     0
+}
+
+// Keeps the flag of the array that a row makes, if it makes one, at the place of the next array, if there is one.
+pub fn hold(own: &[u32; 5256], held: &mut [u8; 16], count: u32, row: u32)
+    ensures { λ _. ⌜ now (held .exit) ≡ heldWith (now (own .entry)) count row (now (held .entry)) ⌝ }
+{
+    if count < Machine::ARRAYS {
+        let i = count as usize;
+        held[i] = flag_of(own, row);
+    }
 }

@@ -1,48 +1,71 @@
 // The loop of the choice writer.
-use crate::End;
-use crate::Wrote;
-use crate::copies::copy;
-use crate::marks::flag_of;
+use crate::marks::hold;
+use evaluators::answers::Failure;
+use machine::End;
 use machine::Machine;
-use machine::frame::Frame;
-use machine::rows::Outcome;
-use recording::rows::Numbers;
-use recording::rows::step_numbers;
+use machine::Move;
+use machine::Worked;
+use machine::steps::zero;
+use prepared::Frame;
+use prepared::copies::copy;
+use prepared::own::lay_out;
+use recording::moves::recorded_move;
+use runs::Ran;
 ghost use mathlib.Core.Path.{_≡_};
 ghost use Prim.Native.Nat.{_<_};
-ghost use mathlib.Core.List.{[]};
-ghost use lib.ListN.{length};
-ghost use Rattle.model.specs.Writer.{writer};
-ghost use Rattle.machine.specs.View.{tableFor, stateOf};
-ghost use Rattle.recording.specs.CodeRecords.{pairOf};
-ghost use Rattle.choices.specs.CodeSteps.{Begins, wrote, stoppedOf, Writes};
+ghost use Rattle.runs.specs.CodeSteps.{ran};
+ghost use Rattle.choices.specs.CodeSteps.{Begins, failedCount, countOf, stoppedOf, WriterWrites};
+
+// How many numbers a row has; or that it comes to no end.
+pub enum Numbers {
+    Count(usize),
+    NoEnd,
+}
+
+fn failed_count(why: Failure, n: usize) -> Numbers
+    ensures { λ r. ⌜ r ≡ failedCount why n ⌝ }
+{
+    match why {
+        Failure::Fails => Numbers::Count(n),
+        _ => Numbers::NoEnd,
+    }
+}
+
+fn count_of(w: Worked) -> Numbers
+    ensures { λ r. ⌜ r ≡ countOf w ⌝ }
+{
+    match w {
+        Worked::Moves(_, n) => Numbers::Count(n),
+        Worked::Ends(_, n) => Numbers::Count(n),
+        Worked::Not(why, n) => failed_count(why, n),
+    }
+}
 
 // An end after so many steps, with so many numbers written.
-fn wrote_to(end: End, steps: u32, at: usize, machine: Machine) -> Wrote
-    ensures { λ r. ⌜ r ≡ wrote end steps at machine ⌝ }
+fn wrote_to(end: End, steps: u32, at: usize, machine: Machine) -> Ran
+    ensures { λ r. ⌜ r ≡ ran end steps at machine ⌝ }
 {
-    Wrote {
+    Ran {
         end,
         steps,
-        count: at as u64,
+        used: at as u64,
         machine,
     }
 }
 
 // A row that did not go on, after so many steps, with the row's numbers written.
-fn stopped(o: Outcome, steps: u32, at: usize, machine: Machine) -> Wrote
+fn stopped(w: Worked, steps: u32, at: usize, machine: Machine) -> Ran
     requires { ⌜ steps < 4294967295 ⌝ }
-    ensures { λ r. ⌜ r ≡ stoppedOf o steps at machine ⌝ }
+    ensures { λ r. ⌜ r ≡ stoppedOf w steps at machine ⌝ }
 {
-    match o {
-        Outcome::AssertFalse(_) => wrote_to(End::AssertFalse, steps + 1, at, machine),
-        Outcome::AssumeFalse(_) => wrote_to(End::AssumeFalse, steps + 1, at, machine),
-        Outcome::WantOfCells(_) => wrote_to(End::WantOfCells, steps + 1, at, machine),
+    match w {
+        Worked::Ends(end, _) => wrote_to(end, steps + 1, at, machine),
         _ => wrote_to(End::Fail, steps + 1, at, machine),
     }
 }
 
-// The steps of the writer from a fresh record on: the numbers of a row are worked out before the row, and written if they all fit.
+// The steps of the writer from a fresh record on: what a row comes to is worked out with its numbers, which are written if they all fit; then
+// the change is made by the methods of a step, each in an arm of its own, since `step` is quick with one caller only.
 pub fn write_steps(
     mut m: Machine,
     t: &[u32],
@@ -50,19 +73,38 @@ pub fn write_steps(
     list: &mut [u32],
     f: Frame,
     limit: u32,
-) -> Wrote
+) -> Ran
     requires { ⌜ Begins (now t) f m (now cells) ⌝ }
-    ensures { λ r. ⌜ Writes (now (t .entry)) f r (now (cells .exit)) (now (list .exit)) (now (list .entry)) (writer (pairOf f) (tableFor (now (t .entry)) f) limit 0 [] (stateOf (now (t .entry)) f m (now (cells .entry))) (length (now (list .entry)))) ⌝ }
+    ensures { λ r. ⌜ WriterWrites (now (t .entry)) f m (now (cells .entry)) (now (list .entry)) limit r (now (cells .exit)) (now (list .exit)) ⌝ }
 {
+    let mut own = [0u32; 5256];
+    lay_out(t, f, &mut own);
     let mut numbers = [0u32; 8192];
     let mut held = [0u8; 16];
     let mut at: usize = 0;
     let mut steps: u32 = 0;
-    while (m.row as usize) < f.rows {
+    while (m.row as usize) < f.counts.rows {
         if steps == limit {
             return wrote_to(End::OutOfSteps, steps, at, m);
         }
-        let c = step_numbers(m, t, cells, &held, &mut numbers, f);
+        let w = recorded_move(
+            &own,
+            cells,
+            &mut numbers,
+            m.row,
+            &m.numbers,
+            &m.bases,
+            m.open,
+            &m.loop_rows,
+            &m.starts,
+            &m.ends,
+            m.count,
+            &m.firsts,
+            &m.lengths,
+            &m.shapes,
+            &held,
+        );
+        let c = count_of(w);
         let Numbers::Count(n) = c else {
             return wrote_to(End::Fail, steps, at, m);
         };
@@ -71,16 +113,33 @@ pub fn write_steps(
         }
         copy(list, at, &numbers, n);
         at = at + n;
-        if m.count < Machine::ARRAYS {
-            held[m.count as usize] = flag_of(t, f, m.row);
-        }
-        let s = m.step(t, cells, &t[..0], f, 0);
-        let o = s.outcome;
-        m = s.machine;
-        let Outcome::Goes(_) = o else {
-            return stopped(o, steps, at, m);
+        let Worked::Moves(change, _) = w else {
+            return stopped(w, steps, at, m);
         };
+        hold(&own, &mut held, m.count, m.row);
         steps = steps + 1;
+        match change {
+            Move::Goes => {
+                m = m.pass();
+            }
+            Move::Puts(a, number, base) => {
+                m = m.put(a, number, base);
+            }
+            Move::Writes(i, v) => {
+                cells[i] = v;
+                m = m.pass();
+            }
+            Move::Lays(a, first, len, size, reduced) => {
+                zero(cells, first, size);
+                m = m.lay(a, first, len, reduced);
+            }
+            Move::Enters(a, number, row, depth, from, upto) => {
+                m = m.enter(a, number, row, depth, from, upto);
+            }
+            Move::Leaves(a, number, depth, next) => {
+                m = m.leave(a, number, depth, next);
+            }
+        }
     }
     wrote_to(End::Done, steps, at, m)
 }

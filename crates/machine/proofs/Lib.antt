@@ -1,10 +1,8 @@
--- The theory of the machines: laws of the view, of answers and of nodes, by which the evaluators are proved; of rows, of a step and of a fresh record.
-pub mod ViewLaws
-pub mod AnswerLaws
-pub mod NodeLaws
-pub mod RowLaws
-pub mod MoveLaws
+-- The theory of the machines: `PutLaws`, what a row comes to by its operand, and rows 33, 35 and 36; `LayLaws`, rows 37 and 41; `WriteLaws`, rows
+-- 34 and 40; `LoopLaws`, rows 38, 42 and 39; `StepLaws`, the row where a record stands; `FreshLaws`, a fresh record.
+pub mod PutLaws
+pub mod LayLaws
+pub mod WriteLaws
 pub mod LoopLaws
-pub mod NewLaws
 pub mod StepLaws
 pub mod FreshLaws

@@ -1,4 +1,4 @@
--- Laws of rows 38, 39 and 42: start and end, the open loops, loop entry, and the way out.
+-- Laws of rows 38, 42 and 39: the open loops, the way out, loop entry, and the loop of a row.
 -- Assumes nothing.
 use Prim.Native.Nat.{ℕ, zero, suc, _<_, _≤_, _+_, _*_, _-_}
 use native.Mathlib.Omega.{arith as numbers}
@@ -10,11 +10,10 @@ use mathlib.Core.List.{List, [], _∷_}
 use mathlib.Core.Bool.{Bool, true, false, not, _||_, false≢true}
 use lib.ListN.{length, getD, set, drop, List·getD-eq-default}
 use lib.Seq.{ext-getD, getD-set-same, getD-set-other}
-use lib.Dec.{leb, eqb}
-use borrow.Author.Tests.{lt-ltb, le-ltb, le-leb, lt-leb, ne-eqb}
-use types.Run.{OneOf, miss}
+use lib.Dec.{ltb, leb, eqb}
+use borrow.Author.Tests.{ltb-true, lt-ltb, le-ltb, ne-eqb}
+use types.Run.{OneOf}
 use denote.Enum.Declared.{tagOf}
-use Rattle.machine.specs.CodeAnswers.{outOf, Says, operand}
 use Rattle.lists.specs.If.{if_then_else_}
 use Rattle.lists.specs.Tab.{tab, listed, all}
 use Rattle.lists.specs.First.{walk}
@@ -25,86 +24,30 @@ use Rattle.model.specs.Class.{class}
 use Rattle.model.specs.Table.{Table, Row, rowAt, rowKind, rowKinds, matchingEnd}
 use Rattle.model.specs.Table.Ty.{uint}
 use Rattle.model.specs.Table.Row.{skip, assign, store, assert, assume, array, loop, loopEnd, reducedStore, reducedArray, classLoop, noRow}
-use Rattle.model.specs.Work.{Out, Work, next, _>>=_, give}
-use Rattle.model.specs.Work.Out.{gives, fails, badChoice, noChoice, stuck}
+use Rattle.model.specs.Work.{Out, Work, next, give, wrong, choose}
+use Rattle.model.specs.Work.Out.{gives, stuck}
 use Rattle.model.specs.State.{Value, Loop, State, formOf, position}
-use Rattle.model.specs.State.Value.{Class}
+use Rattle.model.specs.State.Value.{Uint, Class}
 use Rattle.model.specs.Eval.{add}
-use Rattle.model.specs.Step.{Move, goTo, opened, withHere, withLoops, setVar, pastEnd, enter, loopAt, repeatLoop, rowRule}
+use Rattle.model.specs.Step.{Move, goTo, opened, withHere, withVar, enter, loopAt, repeatLoop, pastEnd, rowRule}
 use Rattle.model.specs.Step.Move.{to}
-use Rattle.machine.proofs.answers.Answer.{the-type as answer}
-use Rattle.machine.proofs.loops.Bounds.{the-type as bounds}
+use Rattle.prepared.specs.Own.{placesOf, rowsOf, ownTable, ownVars}
+use Rattle.evaluators.proofs.answers.Answer.{the-type as answer}
+use Rattle.evaluators.specs.declared.answers.Failure.the-variants.{Stuck}
+use Rattle.evaluators.specs.declared.answers.Answer.{Answer}
+use Rattle.evaluators.specs.declared.answers.Answer.the-variants.{Uint as AUint}
+use Rattle.evaluators.specs.CodeAnswers.{Answers, Says, operand}
+use Rattle.evaluators.specs.CodeLeaves.{arith}
 use Rattle.machine.specs.declared.Machine.{Machine}
-use Rattle.machine.specs.declared.frame.Frame.{Frame}
-use Rattle.machine.specs.declared.answers.Answer.{Answer}
-use Rattle.machine.specs.declared.answers.Answer.the-variants.{Bool as ABool, Uint as AUint, Pointer as APointer, Fails, BadChoice, NoChoice, Stuck}
-use Rattle.machine.specs.declared.loops.Bounds.{Bounds}
-use Rattle.machine.specs.declared.loops.Bounds.the-variants.{Both, Fails as BFails, BadChoice as BBad, NoChoice as BNone, Stuck as BStuck}
-use Rattle.machine.specs.declared.rows.Outcome.{Outcome}
-use Rattle.machine.specs.declared.rows.Outcome.the-variants.{Goes, Stuck as OStuck}
-use Rattle.machine.specs.View.{places, tableFor, sortIn, bySort, loopIn, loopsOf, stateOf}
-use Rattle.machine.specs.CodeLeaves.{arith}
-use Rattle.machine.specs.CodeRows.{outcomeOut, moveOut}
-use Rattle.machine.specs.CodeMoves.{endedOf, heldSort, fitsIn, withValue}
-use Rattle.machine.specs.CodeLoops.{Range, range, twoOf, boundsOf, inClassOf, chosenBounds, boundsOut, boundsEnd, endedBounds, BoolsFit, loopRow}
-use Rattle.machine.specs.CodeLoops.{iterSort, iterNumber, iterOf, outer, outBy, foundOut, Leads, Near}
-use Rattle.machine.proofs.MoveLaws.{lends, fits-both, set-to, set-off, held-uint, held-class, ends-uint}
-
--- ---- start and end
-pub other-bounds : (x : Answer) → OneOf (0 ∷ 1 ∷ 2 ∷ 6 ∷ []) (tagOf answer x) → BStuck ≡ boundsEnd x
-other-bounds (ABool b at) h = refl
-other-bounds (AUint v at) h = refl
-other-bounds (APointer a v at) h = refl
-other-bounds (Fails at) h = absurd (miss (0 ∷ 1 ∷ 2 ∷ 6 ∷ []) 3 tt h)
-other-bounds BadChoice h = absurd (miss (0 ∷ 1 ∷ 2 ∷ 6 ∷ []) 4 tt h)
-other-bounds NoChoice h = absurd (miss (0 ∷ 1 ∷ 2 ∷ 6 ∷ []) 5 tt h)
-other-bounds Stuck h = refl
-
-no-bound : (l : List ℕ) (x : Answer) (k : ℕ → Work Range) → OneOf (0 ∷ 2 ∷ 3 ∷ 4 ∷ 5 ∷ 6 ∷ []) (tagOf answer x)
-    → boundsOut l (boundsEnd x) ≡ next (outOf uint l x) k
-unfolding outOf boundsOut
-no-bound l (ABool b at) k h = refl
-no-bound l (AUint v at) k h = absurd (miss (0 ∷ 2 ∷ 3 ∷ 4 ∷ 5 ∷ 6 ∷ []) 1 tt h)
-no-bound l (APointer a v at) k h = refl
-no-bound l (Fails at) k h = refl
-no-bound l BadChoice k h = refl
-no-bound l NoChoice k h = refl
-no-bound l Stuck k h = refl
-
--- x and y are the two answers, o and g what they are by definition
-module _ (l : List ℕ) (x : Answer) {o : Out ℕ} (g : Work ℕ) (px : outOf uint l x ≡ o) where
-  pub bounds-first : {z : Bounds} → OneOf (0 ∷ 2 ∷ 3 ∷ 4 ∷ 5 ∷ 6 ∷ []) (tagOf answer x) → z ≡ boundsEnd x → boundsOut l z ≡ twoOf o g
-  unfolding twoOf
-  bounds-first h q = ap (boundsOut l) q ∙ no-bound l x (λ v ds. next (g ds) (λ w. give (range v w))) h ∙ ap (λ (o : Out ℕ). twoOf o g) px
-
-  module _ {v nx : ℕ} (ex : x ≡ AUint v nx) (y : Answer) (py : outOf uint l y ≡ g (drop nx l)) where
-    second : next (outOf uint l y) (λ w. give (range v w)) ≡ twoOf o g
-    unfolding twoOf outOf
-    second = ap (λ (o : Out ℕ). next o (λ w. give (range v w))) py ∙ ap (λ (o : Out ℕ). twoOf o g) (sym (ap (outOf uint l) ex) ∙ px)
-
-    pub bounds-second : {z : Bounds} → OneOf (0 ∷ 2 ∷ 3 ∷ 4 ∷ 5 ∷ 6 ∷ []) (tagOf answer y) → z ≡ boundsEnd y → boundsOut l z ≡ twoOf o g
-    bounds-second h q = ap (boundsOut l) q ∙ no-bound l y (λ w. give (range v w)) h ∙ second
-
-    pub bounds-both : {w last : ℕ} → y ≡ AUint w last → boundsOut l (Both v w last) ≡ twoOf o g
-    unfolding outOf boundsOut
-    bounds-both ey = ap (λ (u : Answer). next (outOf uint l u) (λ w. give (range v w))) (sym ey) ∙ second
-
--- a row goes on from z, which is o by definition
-module _ (on : Move) (l : List ℕ) (z : Bounds) {o : Out Range} (k : Range → Work Move) (pz : boundsOut l z ≡ o) where
-  pub bounds-end : {u : Outcome} → OneOf (1 ∷ 2 ∷ 3 ∷ 4 ∷ []) (tagOf bounds z) → u ≡ endedBounds z → outcomeOut on l u ≡ next o k
-  unfolding outcomeOut boundsOut
-  bounds-end h q = ap (outcomeOut on l) q ∙ go z h ∙ ap (λ (o : Out Range). next o k) pz
-    where
-      go : (z : Bounds) → OneOf (1 ∷ 2 ∷ 3 ∷ 4 ∷ []) (tagOf bounds z) → outcomeOut on l (endedBounds z) ≡ next (boundsOut l z) k
-      go (Both x y at) h = absurd (miss (1 ∷ 2 ∷ 3 ∷ 4 ∷ []) 0 tt h)
-      go (BFails at) h = refl
-      go BBad h = refl
-      go BNone h = refl
-      go BStuck h = refl
-
-  pub bounds-on : {v w nx : ℕ} → z ≡ Both v w nx → k (range v w) (drop nx l) ≡ next o k
-  unfolding boundsOut
-  bounds-on e = ap (λ (o : Out Range). next o k) (sym (ap (boundsOut l) e) ∙ pz)
+use Rattle.machine.specs.declared.Move.the-variants.{Enters, Leaves}
+use Rattle.machine.specs.declared.Worked.{Worked}
+use Rattle.machine.specs.declared.Worked.the-variants.{Moves, Not}
+use Rattle.machine.specs.View.{loopIn, loopsOf, ownState}
+use Rattle.machine.specs.CodeMoves.{columns, entered, exited, stepOf, cellsOf, moveOut, CanDo, Works, RowWorks}
+use Rattle.machine.specs.CodeMoves.{loopRow, iterOf, outBy, outer, LoopFits, LoopWorks}
+use Rattle.machine.specs.CodeRows.{lostOf, fitsIn, iterForm, iterNumber, wayOut, leaveOf, entryOf}
+use Rattle.machine.proofs.PutLaws.{works-same, works-stuck, fits-below, vars-iterator, set-to, set-off, lends}
+use Rattle.machine.proofs.WriteLaws.{works-by, row-uint, row-lost}
 
 -- ---- the open loops
 noLoop : Loop
@@ -112,7 +55,8 @@ noLoop = record { row = 0; start = 0; end = 0 }
 
 pub loops-split : (d : ℕ) (rs ss es : List ℕ) → loopsOf (suc d) rs ss es ≡ loopIn rs ss es d ∷ loopsOf d rs ss es
 unfolding loopsOf
-loops-split d rs ss es = ext-getD noLoop (tab (suc d) inner) (loopIn rs ss es d ∷ tab d rest) (length-tab (suc d) inner ∙ sym (ap suc (length-tab d rest))) at
+loops-split d rs ss es =
+    ext-getD noLoop (tab (suc d) inner) (loopIn rs ss es d ∷ tab d rest) (length-tab (suc d) inner ∙ sym (ap suc (length-tab d rest))) at
   where
     inner : ℕ → Loop
     inner i = loopIn rs ss es (suc d - suc i)
@@ -127,7 +71,7 @@ loops-split d rs ss es = ext-getD noLoop (tab (suc d) inner) (loopIn rs ss es d 
         let e : suc d - suc (suc j) ≡ d - suc j = omega numbers in
         at-tab (suc d) inner noLoop (suc j) h ∙ ap (loopIn rs ss es) e ∙ sym (at-tab d rest noLoop j (omega numbers))
 
-loops-push : (d r x y : ℕ) (rs ss es : List ℕ) → d < length rs → d < length ss → d < length es
+pub loops-push : (d r x y : ℕ) (rs ss es : List ℕ) → d < length rs → d < length ss → d < length es
     → loopsOf (suc d) (set rs d r) (set ss d x) (set es d y) ≡ opened r x y ∷ loopsOf d rs ss es
 unfolding loopsOf
 loops-push d r x y rs ss es hr hs he =
@@ -144,230 +88,238 @@ loops-push d r x y rs ss es hr hs he =
         let ne : d - suc i ≢ d = λ e. omega numbers in
         rw (getD-set-other rs d (d - suc i) r 0 ne, getD-set-other ss d (d - suc i) x 0 ne, getD-set-other es d (d - suc i) y 0 ne)
 
--- the record with so many open loops, and with a loop entered
-abbrev pub withOpen : Machine → ℕ → Machine
-withOpen m d = record {
-  row = m .row;
-  «open» = d;
-  «loop_rows» = m .«loop_rows»;
-  starts = m .starts;
-  ends = m .ends;
-  numbers = m .numbers;
-  bases = m .bases;
-  count = m .count;
-  firsts = m .firsts;
-  lengths = m .lengths;
-  shapes = m .shapes;
-}
+-- ---- the way out
+no-end : (own : List ℕ) (row : ℕ) → rowsOf own ≤ row → matchingEnd (ownTable own) row ≡ rowsOf own
+unfolding matchingEnd walk
+no-end own row h = let z : rowsOf own - suc row ≡ 0 = omega numbers in rw z
 
-abbrev pub entered : Machine → ℕ → ℕ → ℕ → ℕ → ℕ → ℕ → Machine
-entered m a v d r x y = record {
-  row = r + 1;
-  «open» = d + 1;
-  «loop_rows» = set (m .«loop_rows») d r;
-  starts = set (m .starts) d x;
-  ends = set (m .ends) d y;
-  numbers = set (m .numbers) a v;
-  bases = set (m .bases) a 0;
-  count = m .count;
-  firsts = m .firsts;
-  lengths = m .lengths;
-  shapes = m .shapes;
-}
+module _ (own : List ℕ) (here row : ℕ) {again : Bool} where
+  pub way-again : again ≡ true → At (here + 1) ≡ wayOut own here row again
+  unfolding wayOut
+  way-again e = rw (e, add-one here)
 
--- ---- loop entry: a is the iterator, v its number
-module _ (t : List ℕ) (f : Frame) (m : Machine) (row : ℕ) (c : Bool) (from upto depth : ℕ) (again : Bool) (at : ℕ)
-    (ok : BoolsFit t f (m .numbers)) (few : f .decls ≤ 32) (long : length (m .numbers) ≡ 32) (wide : length (m .bases) ≡ 32)
-    {a k v : ℕ} (ea : a ≡ rowAt (tableFor t f) row .a) (ek : k ≡ iterSort c) (ev : v ≡ iterNumber (places f) c from) (cells l : List ℕ) where
+  pub way-past : again ≡ false → rowsOf own ≤ row → Nothing ≡ wayOut own here row again
+  unfolding wayOut
+  way-past e h = rw (e, no-end own row h, le-ltb (rowsOf own) (rowsOf own) (omega numbers))
+
+  pub way-found : {q : ℕ} → again ≡ false → q ≡ matchingEnd (ownTable own) row → q < rowsOf own → At (q + 1) ≡ wayOut own here row again
+  unfolding wayOut
+  way-found {q} e eq h = rw (e, ← eq, lt-ltb q (rowsOf own) h, add-one q)
+
+  pub way-lost : {q : ℕ} → again ≡ false → q ≡ matchingEnd (ownTable own) row → rowsOf own ≤ q → Nothing ≡ wayOut own here row again
+  unfolding wayOut
+  way-lost {q} e eq h = rw (e, ← eq, le-ltb q (rowsOf own) h)
+
+abbrev Near : Found → Type 0
+Near (At q) = q ≤ 256
+Near Nothing = Unit {0}
+
+module _ (own : List ℕ) (here row : ℕ) (again : Bool) (few : rowsOf own ≤ 256) (low : here < 256) where
+  near : Near (wayOut own here row again)
+  unfolding wayOut
+  near = by again
+    where
+      past : (b : Bool) → ltb (matchingEnd (ownTable own) row) (rowsOf own) ≡ b
+          → Near (if b then At (suc (matchingEnd (ownTable own) row)) else Nothing)
+      past true e = let h : matchingEnd (ownTable own) row < rowsOf own = ltb-true _ _ e in omega numbers
+      past false e = tt
+
+      by : (g : Bool) → Near (wayOut own here row g)
+      by true = omega numbers
+      by false = past (ltb (matchingEnd (ownTable own) row) (rowsOf own)) refl
+
+  pub way-near : {x : Found} {q : ℕ} → x ≡ wayOut own here row again → x ≡ At q → q ≤ 256
+  way-near e f = subst Near (sym e ∙ f) near
+
+-- ---- loop entry
+module _ (own : List ℕ) (m : Machine) (cells l : List ℕ) (row : ℕ) (c : Bool) (from upto depth : ℕ) (again : Bool) (at : ℕ)
+    (fits : LoopFits own (m .numbers) (m .row) row depth) (hr : length (m .«loop_rows») ≡ 8) (hs : length (m .starts) ≡ 8) (he : length (m .ends) ≡ 8) where
+  abbrev a : ℕ
+  a = rowAt (ownTable own) row .a
+
+  -- the iterator's number, and what the iterator gets
+  abbrev v : ℕ
+  v = iterNumber (placesOf own) c from
+
   abbrev iter : Value
-  iter = iterOf (places f) c from
+  iter = iterOf (placesOf own) c from
+
+  -- the record with no more loops open than those around this one
+  abbrev around : Machine
+  around =
+      columns (m .row) (m .numbers) (m .bases) depth (m .«loop_rows») (m .starts) (m .ends) (m .count) (m .firsts) (m .lengths) (m .shapes)
 
   abbrev inside : State
-  inside = withLoops (stateOf t f m cells) (outer m depth)
+  inside = withVar (ownState own around cells) a iter
 
-  abbrev after : State → Work Move
-  after s = if leb from upto then give (to (withHere s (position (suc row) (opened row from upto ∷ s .here .loops))))
-      else (λ cs. next (outBy again (m .row) (tableFor t f) row cs) (λ q. give (to (goTo s q))))
+  abbrev out : Work ℕ
+  out = outBy again (m .row) (ownTable own) row
 
-  abbrev entering : Out Move
-  entering = enter (tableFor t f) inside row iter from upto (outBy again (m .row) (tableFor t f) row) (drop at l)
-
-  sort-iter : formOf iter ≡ iterSort c
-  sort-iter = go c
+  iter-form : formOf iter ≡ iterForm c
+  iter-form = go c
     where
-      go : (c : Bool) → formOf (iterOf (places f) c from) ≡ iterSort c
+      go : (c : Bool) → formOf (iterOf (placesOf own) c from) ≡ iterForm c
       go true = refl
       go false = refl
 
-  iter-is : fitsIn t f (m .numbers) a k ≡ true → bySort (sortIn t f a) v 0 ≡ iter
-  iter-is e = ap (λ (x : ℕ). bySort (sortIn t f a) x 0) ev ∙ go c (fits-both t f (m .numbers) a k e .1 ∙ ek)
-    where
-      go : (c : Bool) → heldSort (sortIn t f a) (getD (m .numbers) a 0) ≡ iterSort c
-          → bySort (sortIn t f a) (iterNumber (places f) c from) 0 ≡ iterOf (places f) c from
-      go true h = rw (held-class (sortIn t f a) (getD (m .numbers) a 0) h)
-      go false h = rw (held-uint (sortIn t f a) (getD (m .numbers) a 0) h)
+  module _ (e : fitsIn own (m .numbers) a (iterForm c) ≡ true) where
+    a-below : a < 32
+    a-below = fits-below own (m .numbers) a (iterForm c) (fits .decls) e
 
-  setting : fitsIn t f (m .numbers) a k ≡ true → after (stateOf t f (withValue (withOpen m depth) a v 0 (m .row)) cells) (drop at l) ≡ entering
-  setting e =
-      let below : a < f .decls = fits-both t f (m .numbers) a k e .0 in
-      let hn : a < length (m .numbers) = omega numbers in
-      let hb : a < length (m .bases) = omega numbers in
-      ap (λ (o : Out State). next o after)
-          (sym (set-to t f (withOpen m depth) cells a iter (drop at l) v 0 (ap (fitsIn t f (m .numbers) a) (sort-iter ∙ sym ek) ∙ e) hn hb (iter-is e)))
-      ∙ ap (λ (i : ℕ). next (setVar inside i iter (drop at l)) after) ea
-
-  pub enter-in : fitsIn t f (m .numbers) a k ≡ true → from ≤ upto → depth < length (m .«loop_rows») → depth < length (m .starts) → depth < length (m .ends)
-      → moveOut t f (entered m a v depth row from upto) cells l (Goes at) ≡ entering
-  unfolding outcomeOut
-  enter-in e h hr hs he = ap (λ (s : State). gives (to s) (drop at l)) there ∙ opening ∙ setting e
-    where
-      there : stateOf t f (entered m a v depth row from upto) cells
-          ≡ withHere (stateOf t f (withValue (withOpen m depth) a v 0 (m .row)) cells) (position (suc row) (opened row from upto ∷ outer m depth))
-      there = rw (add-one depth, add-one row, loops-push depth row from upto (m .«loop_rows») (m .starts) (m .ends) hr hs he)
-
-      opening : gives (to (withHere (stateOf t f (withValue (withOpen m depth) a v 0 (m .row)) cells)
-          (position (suc row) (opened row from upto ∷ outer m depth)))) (drop at l)
-          ≡ after (stateOf t f (withValue (withOpen m depth) a v 0 (m .row)) cells) (drop at l)
-      opening = rw (le-leb from upto h)
-
-  module _ (e : fitsIn t f (m .numbers) a k ≡ true) (h : upto < from) {x : Found} (px : Leads x (outBy again (m .row) (tableFor t f) row)) where
-    leaving : next (foundOut x (drop at l)) (λ q. give (to (goTo (stateOf t f (withValue (withOpen m depth) a v 0 (m .row)) cells) q))) ≡ entering
-    leaving = ap (λ (o : Out ℕ). next o (λ q. give (to (goTo (stateOf t f (withValue (withOpen m depth) a v 0 (m .row)) cells) q))))
-        (px .leads (drop at l)) ∙ shut ∙ setting e
+    vars : ownVars own (set (m .numbers) a v) (m .bases) ≡ set (ownVars own (m .numbers) (m .bases)) a iter
+    vars =
+        let h : a < 32 = a-below in
+        let k = fits .numbers in
+        vars-iterator own (m .numbers) (m .bases) a v c e (omega numbers)
+        ∙ ap (λ (x : Value). set (ownVars own (m .numbers) (m .bases)) a x) (go c)
       where
-        shut : next (outBy again (m .row) (tableFor t f) row (drop at l))
-            (λ q. give (to (goTo (stateOf t f (withValue (withOpen m depth) a v 0 (m .row)) cells) q)))
-            ≡ after (stateOf t f (withValue (withOpen m depth) a v 0 (m .row)) cells) (drop at l)
-        shut = rw (lt-leb from upto h)
+        go : (c : Bool) → (if c then Class (iterNumber (placesOf own) c from) else Uint (iterNumber (placesOf own) c from)) ≡ iterOf (placesOf own) c from
+        go true = refl
+        go false = refl
 
-    pub enter-out : {q : ℕ} → x ≡ At q → moveOut t f (withValue (withOpen m depth) a v 0 q) cells l (Goes at) ≡ entering
-    unfolding outcomeOut
-    enter-out ex = ap (λ (x : Found). next (foundOut x (drop at l))
-        (λ q. give (to (goTo (stateOf t f (withValue (withOpen m depth) a v 0 (m .row)) cells) q)))) (sym ex) ∙ leaving
+    entered-state : ownState own (entered m a v row depth from upto) cells
+        ≡ withHere inside (position (suc row) (opened row from upto ∷ inside .here .loops))
+    entered-state =
+        let d = fits .depth in
+        rw (vars, add-one row, add-one depth, loops-push depth row from upto (m .«loop_rows») (m .starts) (m .ends) (omega numbers) (omega numbers)
+            (omega numbers))
 
-    pub enter-lost : x ≡ Nothing → moveOut t f m cells l OStuck ≡ entering
-    unfolding outcomeOut
-    enter-lost ex = ap (λ (x : Found). next (foundOut x (drop at l))
-        (λ q. give (to (goTo (stateOf t f (withValue (withOpen m depth) a v 0 (m .row)) cells) q)))) (sym ex) ∙ leaving
+    exited-state : (q : ℕ) → ownState own (exited m a v depth q) cells ≡ goTo inside q
+    exited-state q = rw vars
 
-  pub enter-off : fitsIn t f (m .numbers) a k ≡ false → moveOut t f m cells l OStuck ≡ entering
-  unfolding outcomeOut
-  enter-off e =
-      ap (λ (o : Out State). next o after)
-          (sym (set-off t f (withOpen m depth) cells a iter (drop at l) (ap (fitsIn t f (m .numbers) a) (sort-iter ∙ sym ek) ∙ e) (λ q. ok .small a)))
-      ∙ ap (λ (i : ℕ). next (setVar inside i iter (drop at l)) after) ea
+    leaves : Works own m cells l (leaveOf (wayOut own (m .row) row again) a v depth at) (next (out (drop at l)) (λ q. give (to (goTo inside q))))
+    unfolding wayOut moveOut stepOf cellsOf CanDo
+    leaves = by again
+      where
+        by-way : (q : ℕ) → q ≤ 256 → Works own m cells l (Moves (Leaves a v depth q) at) (gives (to (goTo inside q)) (drop at l))
+        by-way q h = record { said = ap (λ (s : State). gives (to s) (drop at l)) (exited-state q); can = (a-below, h) }
 
--- ---- the way out
-no-end : (t : List ℕ) (f : Frame) (row : ℕ) → f .rows ≤ row → matchingEnd (tableFor t f) row ≡ f .rows
-unfolding matchingEnd walk
-no-end t f row h = let z : f .rows - suc row ≡ 0 = omega numbers in rw z
+        past : (b : Bool) → ltb (matchingEnd (ownTable own) row) (rowsOf own) ≡ b
+            → Works own m cells l (leaveOf (if b then At (suc (matchingEnd (ownTable own) row)) else Nothing) a v depth at)
+                (next ((if_then_else_ {A = Work ℕ} b (give (suc (matchingEnd (ownTable own) row))) wrong) (drop at l)) (λ q. give (to (goTo inside q))))
+        past true u =
+            let h : matchingEnd (ownTable own) row < rowsOf own = ltb-true _ _ u in
+            let k = fits .rows in
+            by-way (suc (matchingEnd (ownTable own) row)) (omega numbers)
+        past false u = works-stuck refl
 
-module _ (t : List ℕ) (f : Frame) (here row : ℕ) {again : Bool} where
-  pub out-again : again ≡ true → Leads (At (here + 1)) (outBy again here (tableFor t f) row)
-  out-again e = record { leads = λ cs. rw (e, add-one here) }
+        by : (g : Bool) → Works own m cells l (leaveOf (wayOut own (m .row) row g) a v depth at)
+            (next (outBy g (m .row) (ownTable own) row (drop at l)) (λ q. give (to (goTo inside q))))
+        by true = by-way (suc (m .row)) (fits .here)
+        by false = past (ltb (matchingEnd (ownTable own) row) (rowsOf own)) refl
 
-  pub out-past : again ≡ false → f .rows ≤ row → Leads Nothing (outBy again here (tableFor t f) row)
-  out-past e h = record { leads = λ cs. rw (e, no-end t f row h, le-ltb (f .rows) (f .rows) (omega numbers)) }
+  abbrev after : State → Work Move
+  after s = if leb from upto then give (to (withHere s (position (suc row) (opened row from upto ∷ s .here .loops))))
+      else (λ cs. next (out cs) (λ q. give (to (goTo s q))))
 
-  pub out-found : {q : ℕ} → again ≡ false → q ≡ matchingEnd (tableFor t f) row → q < f .rows → Leads (At (q + 1)) (outBy again here (tableFor t f) row)
-  out-found {q} e eq h = record { leads = λ cs. rw (e, ← eq, lt-ltb q (f .rows) h, add-one q) }
+  abbrev entering : Out Move
+  entering = enter (ownTable own) (outer own m cells depth) row iter from upto out (drop at l)
 
-  pub out-lost : {q : ℕ} → again ≡ false → q ≡ matchingEnd (tableFor t f) row → f .rows ≤ q → Leads Nothing (outBy again here (tableFor t f) row)
-  out-lost {q} e eq h = record { leads = λ cs. rw (e, ← eq, le-ltb q (f .rows) h) }
+  goes : fitsIn own (m .numbers) a (iterForm c) ≡ true → (b : Bool)
+      → Works own m cells l (if b then Moves (Enters a v row depth from upto) at else leaveOf (wayOut own (m .row) row again) a v depth at)
+          ((if_then_else_ {A = Work Move} b (give (to (withHere inside (position (suc row) (opened row from upto ∷ inside .here .loops)))))
+          (λ cs. next (out cs) (λ q. give (to (goTo inside q))))) (drop at l))
+  unfolding moveOut stepOf cellsOf CanDo
+  goes e true = record { said = ap (λ (s : State). gives (to s) (drop at l)) (entered-state e); can = (a-below e, fits .row, fits .depth) }
+  goes e false = leaves e
 
-pub near-at : {x : Found} {q : ℕ} → Near x → x ≡ At q → q ≤ 256
-near-at n e = subst Near e n
-
--- ---- the loop of a row
-module _ (ps : List ℕ) (t : Table) (s : State) (r x y : ℕ) (out : Work ℕ) where
-  abbrev chosen : Range → Work Move
-  chosen b = enter t s r (iterOf ps true (b .from)) (b .from) (b .upto) out
-
-  pub by-chosen : (cs : List ℕ) → next (chosenBounds ps x y cs) chosen ≡ loopAt ps t s r classLoop x y out cs
-  unfolding twoOf
-  by-chosen cs = first (inClassOf ps x cs)
+  pub entry-works : Works own m cells l (entryOf own (m .numbers) (m .row) row c from upto depth again at) entering
+  unfolding entryOf
+  entry-works = by (fitsIn own (m .numbers) a (iterForm c)) refl
     where
-      second : (v : ℕ) (o : Out ℕ) → next (next o (λ w. give (range v w))) chosen ≡ next o (λ w. enter t s r (Class (class ps v)) v w out)
-      second v (gives w ds) = refl
-      second v (fails ds) = refl
-      second v badChoice = refl
-      second v noChoice = refl
-      second v stuck = refl
+      by : (b : Bool) → fitsIn own (m .numbers) a (iterForm c) ≡ b
+          → Works own m cells l (if b then
+              (if leb from upto then Moves (Enters a v row depth from upto) at else leaveOf (wayOut own (m .row) row again) a v depth at) else Not Stuck at)
+              entering
+      by true e = works-same (goes e (leb from upto)) (ap (λ (o : Out State). next o after)
+          (sym (set-to own around cells a iter (drop at l) (λ q. fits .bools) (ap (fitsIn own (m .numbers) a) iter-form ∙ e))))
+      by false e = works-stuck (ap (λ (o : Out State). next o after)
+          (sym (set-off own around cells a iter (drop at l) (λ q. fits .bools) (ap (fitsIn own (m .numbers) a) iter-form ∙ e))))
 
-      first : (o : Out ℕ) → next (next o (λ v ds. next (inClassOf ps y ds) (λ w. give (range v w)))) chosen
-          ≡ next o (λ v. inClassOf ps y >>= λ w. enter t s r (Class (class ps v)) v w out)
-      first (gives v ds) = second v (inClassOf ps y ds)
-      first (fails ds) = refl
-      first badChoice = refl
-      first noChoice = refl
-      first stuck = refl
+-- with no choice taken, it is the loop of a row 38
+pub entry-loops : (own : List ℕ) (m : Machine) (cells l : List ℕ) (row x y depth : ℕ) (again : Bool) (at : ℕ)
+    → LoopFits own (m .numbers) (m .row) row depth → length (m .«loop_rows») ≡ 8 → length (m .starts) ≡ 8 → length (m .ends) ≡ 8
+    → Works own m cells l (entryOf own (m .numbers) (m .row) row false x y depth again at)
+        (loopAt (placesOf own) (ownTable own) (outer own m cells depth) row loop x y (outBy again (m .row) (ownTable own) row) (drop at l))
+entry-loops own m cells l row x y depth again at fits hr hs he = entry-works own m cells l row false x y depth again at fits hr hs he
 
-module _ (t : List ℕ) (f : Frame) (l : List ℕ) (m : Machine) (row x y depth : ℕ) (again : Bool) (at : ℕ) (cells : List ℕ) where
-  abbrev around : State
-  around = withLoops (stateOf t f m cells) (outer m depth)
+-- ---- the loop of a row: z is what it came to
+module _ (own ns l : List ℕ) (here row x y depth : ℕ) (again : Bool) (at : ℕ) (fits : LoopFits own ns here row depth) where
+  abbrev ps : List ℕ
+  ps = placesOf own
 
-  abbrev way : Work ℕ
-  way = outBy again (m .row) (tableFor t f) row
+  pub loop-plain : {c : Bool} {z : Worked} → c ≡ false → z ≡ entryOf own ns here row false x y depth again at
+      → LoopWorks own ns l here row c x y depth again at z
+  loop-plain ec e = rw ec (record {
+    loops = λ n count bs rows ss es fs ls hs cells hr hs′ he.
+        works-by (entry-loops own (columns here ns bs n rows ss es count fs ls hs) cells l row x y depth again at fits hr hs′ he) e;
+  })
 
-  abbrev looping : Bool → Out Move
-  looping c = loopAt (places f) (tableFor t f) around row (loopRow c) x y way (drop at l)
+  -- p is the choice in the class of the start, q the one in the class of the end
+  module _ {c : Bool} (ec : c ≡ true) {k : ℕ} (ek : k ≡ class ps x) (p : Answer) (pp : Answers uint l p (choose (λ v. eqb (class ps v) k) (drop at l))) where
+    abbrev onEnd : State → ℕ → ℕ → Work Move
+    onEnd s v w = enter (ownTable own) s row (Class (class ps v)) v w (outBy again here (ownTable own) row)
 
-  module _ {c : Bool} (ec : c ≡ true) (z : Bounds) (pz : boundsOut l z ≡ chosenBounds (places f) x y (drop at l)) where
-    all-chosen : next (chosenBounds (places f) x y (drop at l)) (chosen (places f) (tableFor t f) around row x y way) ≡ looping c
-    all-chosen = by-chosen (places f) (tableFor t f) around row x y way (drop at l) ∙ ap looping (sym ec)
+    abbrev onStart : State → ℕ → Work Move
+    onStart s v cs = next (choose (λ w. eqb (class ps w) (class ps y)) cs) (onEnd s v)
 
-    pub loop-ends : {u : Outcome} → OneOf (1 ∷ 2 ∷ 3 ∷ 4 ∷ []) (tagOf bounds z) → u ≡ endedBounds z → moveOut t f m cells l u ≡ looping c
-    loop-ends h q = bounds-end (to (stateOf t f m cells)) l z (chosen (places f) (tableFor t f) around row x y way) pz h q ∙ all-chosen
+    first-from : Answers uint l p (choose (λ v. eqb (class ps v) (class ps x)) (drop at l))
+    first-from = rw ek at pp
 
-    pub loop-chosen : {v w nx : ℕ} {o : Out Move} → z ≡ Both v w nx → o ≡ enter (tableFor t f) around row (iterOf (places f) true v) v w way (drop nx l)
-        → o ≡ looping c
-    loop-chosen e q = q ∙ bounds-on (to (stateOf t f m cells)) l z (chosen (places f) (tableFor t f) around row x y way) pz e ∙ all-chosen
+    pub loop-first : {z : Worked} → OneOf (0 ∷ 2 ∷ 3 ∷ []) (tagOf answer p) → z ≡ lostOf p → LoopWorks own ns l here row c x y depth again at z
+    loop-first h e = rw ec (record {
+      loops = λ n count bs rows ss es fs ls hs cells hr hs′ he.
+          row-lost uint p (onStart (outer own (columns here ns bs n rows ss es count fs ls hs) cells depth)) first-from h e;
+    })
 
-  pub loop-plain : {c : Bool} {o : Out Move} → c ≡ false → o ≡ enter (tableFor t f) around row (iterOf (places f) false x) x y way (drop at l) → o ≡ looping c
-  loop-plain e q = q ∙ ap looping (sym e)
+    module _ {v nx : ℕ} (ep : p ≡ AUint v nx) {j : ℕ} (ej : j ≡ class ps y) (q : Answer)
+        (pq : Answers uint l q (choose (λ w. eqb (class ps w) j) (drop nx l))) where
+      second-from : Answers uint l q (choose (λ w. eqb (class ps w) (class ps y)) (drop nx l))
+      second-from = rw ej at pq
 
--- ---- 38 and 42
-module _ (c : Bool) (t : List ℕ) (f : Frame) (l : List ℕ) (m : Machine) (cells : List ℕ) (n a b d at : ℕ) where
-  abbrev onBounds : Range → Work Move
-  onBounds r = loopAt (places f) (tableFor t f) (stateOf t f m cells) n (loopRow c) (r .from) (r .upto) (pastEnd (tableFor t f) n)
+      pub loop-second : {z : Worked} → OneOf (0 ∷ 2 ∷ 3 ∷ []) (tagOf answer q) → z ≡ lostOf q → LoopWorks own ns l here row c x y depth again at z
+      loop-second h e = rw ec (record {
+        loops = λ n count bs rows ss es fs ls hs cells hr hs′ he.
+            let s = outer own (columns here ns bs n rows ss es count fs ls hs) cells depth in
+            row-uint p (onStart s) first-from ep (row-lost uint q (onEnd s v) second-from h e);
+      })
 
-  pub by-open : next (boundsOf (lends t f m cells) (f .nodes) b d (drop at l)) onBounds
-      ≡ rowRule (places f) (tableFor t f) (stateOf t f m cells) n (loopRow c) a b d (drop at l)
-  unfolding twoOf rowRule operand
-  by-open = go c
-    where
-      on : Bool → ℕ → ℕ → Work Move
-      on c x y = loopAt (places f) (tableFor t f) (stateOf t f m cells) n (loopRow c) x y (pastEnd (tableFor t f) n)
+      pub loop-chosen : {z : Worked} {w last : ℕ} → q ≡ AUint w last → z ≡ entryOf own ns here row true v w depth again last
+          → LoopWorks own ns l here row c x y depth again at z
+      loop-chosen {w = w} {last} eq e = rw ec (record {
+        loops = λ n count bs rows ss es fs ls hs cells hr hs′ he.
+            let m = columns here ns bs n rows ss es count fs ls hs in
+            let s = outer own m cells depth in
+            row-uint p (onStart s) first-from ep (row-uint q (onEnd s v) second-from eq
+            (works-by (entry-works own m cells l row true v w depth again last fits hr hs′ he) e));
+      })
 
-      second : (c : Bool) (v : ℕ) (o : Out ℕ) → next (next o (λ w. give (range v w))) (λ r. on c (r .from) (r .upto)) ≡ next o (λ w. on c v w)
-      second c v (gives w ds) = refl
-      second c v (fails ds) = refl
-      second c v badChoice = refl
-      second c v noChoice = refl
-      second c v stuck = refl
+-- ---- 38 and 42: x and y are what the operands gave
+module _ (own l : List ℕ) (m : Machine) (cells : List ℕ) (class : Bool) (a b c at : ℕ) where
+  abbrev onBoth : Bool → ℕ → ℕ → Work Move
+  onBoth d v w = loopAt (placesOf own) (ownTable own) (ownState own m cells) (m .row) (loopRow d) v w (pastEnd (ownTable own) (m .row))
 
-      first : (c : Bool) (o : Out ℕ)
-          → next (next o (λ v ds. next (operand (lends t f m cells) uint (f .nodes) d ds) (λ w. give (range v w)))) (λ r. on c (r .from) (r .upto))
-          ≡ next o (λ v ds. next (operand (lends t f m cells) uint (f .nodes) d ds) (λ w. on c v w))
-      first c (gives v ds) = second c v (operand (lends t f m cells) uint (f .nodes) d ds)
-      first c (fails ds) = refl
-      first c badChoice = refl
-      first c noChoice = refl
-      first c stuck = refl
+  abbrev onFirst : Bool → ℕ → Work Move
+  onFirst d v cs = next (operand (lends own m cells) uint 1024 c cs) (onBoth d v)
 
-      go : (c : Bool) → next (boundsOf (lends t f m cells) (f .nodes) b d (drop at l)) (λ r. on c (r .from) (r .upto))
-          ≡ rowRule (places f) (tableFor t f) (stateOf t f m cells) n (loopRow c) a b d (drop at l)
-      go true = first true (operand (lends t f m cells) uint (f .nodes) b (drop at l))
-      go false = first false (operand (lends t f m cells) uint (f .nodes) b (drop at l))
+  by-open : (d : Bool) → next (operand (lends own m cells) uint 1024 b (drop at l)) (onFirst d)
+      ≡ rowRule (placesOf own) (ownTable own) (ownState own m cells) (m .row) (loopRow d) a b c (drop at l)
+  unfolding rowRule operand
+  by-open true = refl
+  by-open false = refl
 
-  module _ (z : Bounds) (pz : boundsOut l z ≡ boundsOf (lends t f m cells) (f .nodes) b d (drop at l)) where
-    pub open-ends : {u : Outcome} → OneOf (1 ∷ 2 ∷ 3 ∷ 4 ∷ []) (tagOf bounds z) → u ≡ endedBounds z
-        → moveOut t f m cells l u ≡ rowRule (places f) (tableFor t f) (stateOf t f m cells) n (loopRow c) a b d (drop at l)
-    open-ends h q = bounds-end (to (stateOf t f m cells)) l z onBounds pz h q ∙ by-open
+  module _ (x : Answer) (px : Answers uint l x (operand (lends own m cells) uint 1024 b (drop at l))) where
+    pub open-first : {z : Worked} → OneOf (0 ∷ 2 ∷ 3 ∷ []) (tagOf answer x) → z ≡ lostOf x → RowWorks own m cells l (loopRow class) a b c (drop at l) z
+    open-first h e = works-same (row-lost uint x (onFirst class) px h e) (by-open class)
 
-    pub open-on : {x y nx : ℕ} {o : Out Move} → z ≡ Both x y nx → o ≡ onBounds (range x y) (drop nx l)
-        → o ≡ rowRule (places f) (tableFor t f) (stateOf t f m cells) n (loopRow c) a b d (drop at l)
-    open-on e q = q ∙ bounds-on (to (stateOf t f m cells)) l z onBounds pz e ∙ by-open
+    module _ {v nx : ℕ} (ex : x ≡ AUint v nx) (y : Answer) (py : Answers uint l y (operand (lends own m cells) uint 1024 c (drop nx l))) where
+      pub open-second : {z : Worked} → OneOf (0 ∷ 2 ∷ 3 ∷ []) (tagOf answer y) → z ≡ lostOf y
+          → RowWorks own m cells l (loopRow class) a b c (drop at l) z
+      open-second h e = works-same (row-uint x (onFirst class) px ex (row-lost uint y (onBoth class v) py h e)) (by-open class)
+
+      pub open-both : {z : Worked} {w last : ℕ} → y ≡ AUint w last → Works own m cells l z (onBoth class v w (drop last l))
+          → RowWorks own m cells l (loopRow class) a b c (drop at l) z
+      open-both ey h = works-same (row-uint x (onFirst class) px ex (row-uint y (onBoth class v) py ey h)) (by-open class)
 
 -- ---- 39
 isLoop : Row → Bool
@@ -400,74 +352,22 @@ not-loop k h38 h42 = elim (decLe 43 k) [
     go true e = absurd (false≢true e)
     go false e = refl
 
-loop-none : (ps : List ℕ) (t : Table) (s : State) (r x y : ℕ) (out : Work ℕ) (cs : List ℕ) (k : Row) → isLoop k ≡ false → loopAt ps t s r k x y out cs ≡ stuck
-unfolding isLoop
-loop-none ps t s r x y out cs skip h = refl
-loop-none ps t s r x y out cs assign h = refl
-loop-none ps t s r x y out cs store h = refl
-loop-none ps t s r x y out cs assert h = refl
-loop-none ps t s r x y out cs assume h = refl
-loop-none ps t s r x y out cs array h = refl
-loop-none ps t s r x y out cs loop h = absurd (false≢true (sym h))
-loop-none ps t s r x y out cs loopEnd h = refl
-loop-none ps t s r x y out cs reducedStore h = refl
-loop-none ps t s r x y out cs reducedArray h = refl
-loop-none ps t s r x y out cs classLoop h = absurd (false≢true (sym h))
-loop-none ps t s r x y out cs noRow h = refl
-
-module _ (t : List ℕ) (f : Frame) (l : List ℕ) (m : Machine) (cells : List ℕ) (n a b c at : ℕ) where
-  abbrev repeating : ℕ → Out Move
-  repeating d = repeatLoop (places f) (tableFor t f) (stateOf t f m cells) (outer m d) (drop at l)
-
-  abbrev repeated : Out Move
-  repeated = rowRule (places f) (tableFor t f) (stateOf t f m cells) n loopEnd a b c (drop at l)
-
-  by-repeat : repeating (m .«open») ≡ repeated
-  unfolding rowRule
-  by-repeat = refl
-
-  pub repeat-none : m .«open» ≡ 0 → moveOut t f m cells l OStuck ≡ repeated
-  unfolding outcomeOut loopsOf tab listed
-  repeat-none e = ap repeating (sym e) ∙ by-repeat
-
-  module _ (d : ℕ) (ed : m .«open» ≡ suc d) where
-    abbrev row : ℕ
-    row = getD (m .«loop_rows») d 0
-
-    abbrev onStart : ℕ → Work Move
-    onStart x = loopAt (places f) (tableFor t f) (withLoops (stateOf t f m cells) (outer m d)) row (rowKind (rowAt (tableFor t f) row .kind)) x
-        (getD (m .ends) d 0) (give (suc (m .row)))
-
-    by-split : next (add (getD (m .starts) d 0) 1 (drop at l)) onStart ≡ repeated
-    by-split = sym (ap (λ (ls : List Loop). repeatLoop (places f) (tableFor t f) (stateOf t f m cells) ls (drop at l))
-        (loops-split d (m .«loop_rows») (m .starts) (m .ends))) ∙ ap repeating (sym ed) ∙ by-repeat
-
-    module _ {x : Answer} (px : Says uint at x (arith false (getD (m .starts) d 0) 1)) where
-      added : outOf uint l x ≡ add (getD (m .starts) d 0) 1 (drop at l)
-      unfolding arith
-      added = px .said l
-
-      pub repeat-ends : {z : Outcome} → OneOf (0 ∷ 2 ∷ 3 ∷ 4 ∷ 5 ∷ 6 ∷ []) (tagOf answer x) → z ≡ endedOf x → moveOut t f m cells l z ≡ repeated
-      repeat-ends h q = ends-uint (to (stateOf t f m cells)) l x onStart added h q ∙ by-split
-
-      module _ {v nx : ℕ} (ex : x ≡ AUint v nx) where
-        starts : onStart v (drop nx l) ≡ repeated
-        unfolding outOf
-        starts = ap (λ (o : Out ℕ). next o onStart) (sym (ap (outOf uint l) ex) ∙ added) ∙ by-split
-
-        pub repeat-loop : (class : Bool) {k : ℕ} {o : Out Move} → k ≡ rowAt (tableFor t f) row .kind → rowKind k ≡ loopRow class
-            → o ≡ loopAt (places f) (tableFor t f) (withLoops (stateOf t f m cells) (outer m d)) row (loopRow class) v (getD (m .ends) d 0)
-                (give (suc (m .row))) (drop nx l) → o ≡ repeated
-        repeat-loop class {k} ek e q =
-            q ∙ ap (λ (u : Row). loopAt (places f) (tableFor t f) (withLoops (stateOf t f m cells) (outer m d)) row u v (getD (m .ends) d 0)
-                (give (suc (m .row))) (drop nx l)) (sym e ∙ ap rowKind ek) ∙ starts
-
-        pub repeat-other : {k : ℕ} → k ≡ rowAt (tableFor t f) row .kind → k ≢ 38 → k ≢ 42 → moveOut t f m cells l OStuck ≡ repeated
-        unfolding outcomeOut
-        repeat-other {k} ek h38 h42 =
-            sym (loop-none (places f) (tableFor t f) (withLoops (stateOf t f m cells) (outer m d)) row v (getD (m .ends) d 0) (give (suc (m .row)))
-                (drop nx l) (rowKind (rowAt (tableFor t f) row .kind)) (ap (λ (k : ℕ). isLoop (rowKind k)) (sym ek) ∙ not-loop k h38 h42))
-            ∙ starts
+-- s is a state, and cs the choices left
+module _ (ps : List ℕ) (t : Table) (s : State) (r x y : ℕ) (out : Work ℕ) (cs : List ℕ) where
+  loop-none : (k : Row) → isLoop k ≡ false → stuck ≡ loopAt ps t s r k x y out cs
+  unfolding isLoop
+  loop-none skip h = refl
+  loop-none assign h = refl
+  loop-none store h = refl
+  loop-none assert h = refl
+  loop-none assume h = refl
+  loop-none array h = refl
+  loop-none loop h = absurd (false≢true (sym h))
+  loop-none loopEnd h = refl
+  loop-none reducedStore h = refl
+  loop-none reducedArray h = refl
+  loop-none classLoop h = absurd (false≢true (sym h))
+  loop-none noRow h = refl
 
 pub kind-38 : {k : ℕ} → k ≡ 38 → rowKind k ≡ loopRow false
 unfolding rowKind
@@ -477,10 +377,63 @@ pub kind-42 : {k : ℕ} → k ≡ 42 → rowKind k ≡ loopRow true
 unfolding rowKind
 kind-42 e = rw e
 
--- a row of a kind above 0 is one of the table's
-pub row-there : (t : List ℕ) (f : Frame) (r : ℕ) {k : ℕ} → f .rows ≤ 256 → length t ≡ 4 * (f .decls + f .nodes + f .rows)
-    → k ≡ rowAt (tableFor t f) r .kind → 0 < k → r < 256
-row-there t f r few long e h = elim (decLe (length t) (4 * (f .decls + f .nodes + r))) [
-  | yes past ↦ let z : rowAt (tableFor t f) r .kind ≡ 0 = List·getD-eq-default t 0 {n = 4 * (f .decls + f .nodes + r)} past in absurd (omega (numbers, z, e, h))
+-- the kind of a row, as the code reads it
+pub kind-read : (own : List ℕ) (r : ℕ) {k : ℕ} → k ≡ getD own (4 * (34 + 1024 + r) + 0) 0 → k ≡ rowAt (ownTable own) r .kind
+kind-read own r e = let q : 4 * (34 + 1024 + r) + 0 ≡ 4 * (34 + 1024 + r) = omega numbers in e ∙ ap (λ (i : ℕ). getD own i 0) q
+
+-- a row of a kind above 0 is one of the copy's
+pub row-there : (own : List ℕ) (r : ℕ) {k : ℕ} → length own ≡ 5256 → k ≡ rowAt (ownTable own) r .kind → 0 < k → r < 256
+row-there own r long e h = elim (decLe (length own) (4 * (34 + 1024 + r))) [
+  | yes past ↦ let z : rowAt (ownTable own) r .kind ≡ 0 = List·getD-eq-default own 0 {n = 4 * (34 + 1024 + r)} past in absurd (omega (numbers, z, e, h))
   | no before ↦ omega numbers
 ]
+
+module _ (own l : List ℕ) (m : Machine) (cells : List ℕ) (a b c at : ℕ) where
+  abbrev repeating : ℕ → Out Move
+  repeating d = repeatLoop (placesOf own) (ownTable own) (ownState own m cells) (loopsOf d (m .«loop_rows») (m .starts) (m .ends)) (drop at l)
+
+  by-repeat : repeating (m .«open») ≡ rowRule (placesOf own) (ownTable own) (ownState own m cells) (m .row) loopEnd a b c (drop at l)
+  unfolding rowRule
+  by-repeat = refl
+
+  pub repeat-none : m .«open» ≡ 0 → RowWorks own m cells l loopEnd a b c (drop at l) (Not Stuck at)
+  unfolding loopsOf tab listed
+  repeat-none e = works-stuck (ap repeating (sym e) ∙ by-repeat)
+
+  module _ (d : ℕ) (ed : m .«open» ≡ suc d) where
+    abbrev row : ℕ
+    row = getD (m .«loop_rows») d 0
+
+    abbrev onNext : Row → ℕ → Work Move
+    onNext k x = loopAt (placesOf own) (ownTable own) (outer own m cells d) row k x (getD (m .ends) d 0) (give (suc (m .row)))
+
+    abbrev kind : Row
+    kind = rowKind (rowAt (ownTable own) row .kind)
+
+    by-split : next (add (getD (m .starts) d 0) 1 (drop at l)) (onNext kind)
+        ≡ rowRule (placesOf own) (ownTable own) (ownState own m cells) (m .row) loopEnd a b c (drop at l)
+    by-split = sym (ap (λ (ls : List Loop). repeatLoop (placesOf own) (ownTable own) (ownState own m cells) ls (drop at l))
+        (loops-split d (m .«loop_rows») (m .starts) (m .ends))) ∙ ap repeating (sym ed) ∙ by-repeat
+
+    module _ (x : Answer) (px : Says uint at x (arith false (getD (m .starts) d 0) 1)) where
+      added : Answers uint l x (add (getD (m .starts) d 0) 1 (drop at l))
+      unfolding arith
+      added = px .says l
+
+      pub repeat-ends : {z : Worked} → OneOf (0 ∷ 2 ∷ 3 ∷ []) (tagOf answer x) → z ≡ lostOf x → RowWorks own m cells l loopEnd a b c (drop at l) z
+      repeat-ends h e = works-same (row-lost uint x (onNext kind) added h e) by-split
+
+      module _ {v nx : ℕ} (ex : x ≡ AUint v nx) {k : ℕ} (ek : k ≡ getD own (4 * (34 + 1024 + row) + 0) 0) where
+        kind-is : rowKind k ≡ kind
+        kind-is = ap rowKind (kind-read own row ek)
+
+        pub repeat-loop : (class : Bool) {z : Worked} → rowKind k ≡ loopRow class → Works own m cells l z (onNext (loopRow class) v (drop nx l))
+            → RowWorks own m cells l loopEnd a b c (drop at l) z
+        repeat-loop class e h =
+            works-same (row-uint x (onNext kind) added ex (works-same h (ap (λ (u : Row). onNext u v (drop nx l)) (sym e ∙ kind-is)))) by-split
+
+        pub repeat-other : k ≢ 38 → k ≢ 42 → RowWorks own m cells l loopEnd a b c (drop at l) (Not Stuck at)
+        repeat-other h38 h42 =
+            works-same (row-uint x (onNext kind) added ex (works-stuck
+            (loop-none (placesOf own) (ownTable own) (outer own m cells d) row v (getD (m .ends) d 0) (give (suc (m .row))) (drop nx l) kind
+            (ap isLoop (sym kind-is) ∙ not-loop k h38 h42)))) by-split

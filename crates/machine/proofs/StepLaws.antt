@@ -1,4 +1,4 @@
--- Laws of a step: the row by its kind.
+-- Laws of a step: the row where the record stands, by its kind.
 -- Assumes nothing.
 use Prim.Native.Nat.{ℕ, suc, _<_, _≤_, _+_, _*_}
 use native.Mathlib.Omega.{arith}
@@ -8,32 +8,24 @@ use mathlib.Core.Logic.{_≢_}
 use mathlib.Core.List.{List, [], _∷_}
 use mathlib.Core.Bool.{Bool, true, false}
 use lib.ListN.{getD, drop, replicate, getD-replicate, List·getD-append, List·getD-eq-default}
-use Rattle.model.specs.Table.{Row, rowAt, rowKind, rowKinds, nestAt, nestOf}
+use Rattle.model.specs.Table.{Row, rowAt, rowKind, rowKinds, nestOf}
 use Rattle.model.specs.Table.Row.{skip, assign, store, assert, assume, array, loop, loopEnd, reducedStore, reducedArray, classLoop, noRow}
 use Rattle.model.specs.Table.Nest.{opens}
 use Rattle.model.specs.Work.{Out}
 use Rattle.model.specs.Step.{Move, rowRule, stepAt, step}
+use Rattle.prepared.specs.Own.{placesOf, ownTable}
+use Rattle.evaluators.specs.declared.answers.Failure.the-variants.{Stuck}
 use Rattle.machine.specs.declared.Machine.{Machine}
-use Rattle.machine.specs.declared.frame.Frame.{Frame}
-use Rattle.machine.specs.declared.rows.Outcome.{Outcome}
-use Rattle.machine.specs.declared.rows.Outcome.the-variants.{Goes, AssertFalse, AssumeFalse, WantOfCells, Fails as OFails, BadChoice as OBad}
-use Rattle.machine.specs.declared.rows.Outcome.the-variants.{NoChoice as ONone, Stuck as OStuck}
-use Rattle.machine.specs.View.{places, tableFor, stateOf}
-use Rattle.machine.specs.CodeRows.{outcomeOut, moveOut, Still, Unmoved}
-use Rattle.machine.specs.CodeLoops.{loopRow}
+use Rattle.machine.specs.declared.Move.the-variants.{Goes}
+use Rattle.machine.specs.declared.Worked.{Worked}
+use Rattle.machine.specs.declared.Worked.the-variants.{Moves, Not}
+use Rattle.machine.specs.View.{ownState}
+use Rattle.machine.specs.CodeMoves.{RowWorks, StepWorks, Within, loopRow, LoopFits, RepeatFits}
+use Rattle.machine.proofs.PutLaws.{works-same, works-stuck}
+use Rattle.machine.proofs.WriteLaws.{works-goes}
+use Rattle.machine.proofs.LoopLaws.{kind-read}
 
--- what left the cells alone
-pub unmoved : (o : Outcome) (m n : Machine) (cs : List ℕ) → Still o (m ≡ n) → Unmoved o m n cs cs
-unfolding Still
-unmoved (Goes at) m n cs h = tt
-unmoved (AssertFalse at) m n cs h = (h, refl)
-unmoved (AssumeFalse at) m n cs h = (h, refl)
-unmoved (WantOfCells at) m n cs h = (h, refl)
-unmoved (OFails at) m n cs h = (h, refl)
-unmoved OBad m n cs h = (h, refl)
-unmoved ONone m n cs h = (h, refl)
-unmoved OStuck m n cs h = (h, refl)
-
+-- ---- kinds that are no row's
 above : (n : ℕ) {k : ℕ} → n ≤ k → k ≢ n → suc n ≤ k
 above n h e = omega arith
 
@@ -56,86 +48,58 @@ no-row k h32 h33 h34 h35 h36 h37 h38 h39 h40 h41 h42 = elim (decLe 32 k) [
     below-32 : (32 ≤ k → ⊥) → k < 32
     below-32 h = omega arith
 
-pub row-32 : {k : ℕ} → k ≡ 32 → rowKind k ≡ skip
-unfolding rowKind
-row-32 e = rw e
-
-pub row-33 : {k : ℕ} → k ≡ 33 → rowKind k ≡ assign
-unfolding rowKind
-row-33 e = rw e
-
-pub row-34 : {k : ℕ} → k ≡ 34 → rowKind k ≡ store
-unfolding rowKind
-row-34 e = rw e
-
-pub row-35 : {k : ℕ} → k ≡ 35 → rowKind k ≡ assert
-unfolding rowKind
-row-35 e = rw e
-
-pub row-36 : {k : ℕ} → k ≡ 36 → rowKind k ≡ assume
-unfolding rowKind
-row-36 e = rw e
-
-pub row-37 : {k : ℕ} → k ≡ 37 → rowKind k ≡ array
-unfolding rowKind
-row-37 e = rw e
-
-pub row-38 : {k : ℕ} → k ≡ 38 → rowKind k ≡ loop
-unfolding rowKind
-row-38 e = rw e
-
-pub row-39 : {k : ℕ} → k ≡ 39 → rowKind k ≡ loopEnd
-unfolding rowKind
-row-39 e = rw e
-
-pub row-40 : {k : ℕ} → k ≡ 40 → rowKind k ≡ reducedStore
-unfolding rowKind
-row-40 e = rw e
-
-pub row-41 : {k : ℕ} → k ≡ 41 → rowKind k ≡ reducedArray
-unfolding rowKind
-row-41 e = rw e
-
-pub row-42 : {k : ℕ} → k ≡ 42 → rowKind k ≡ classLoop
-unfolding rowKind
-row-42 e = rw e
-
--- k, a, b and c are the words of the row
-module _ (t : List ℕ) (f : Frame) (m : Machine) (cells l : List ℕ) (at : ℕ) {k a b c : ℕ}
-    (ek : k ≡ getD t (4 * (f .decls + f .nodes + m .row) + 0) 0) (ea : a ≡ rowAt (tableFor t f) (m .row) .a) (eb : b ≡ rowAt (tableFor t f) (m .row) .b)
-        (ec : c ≡ rowAt (tableFor t f) (m .row) .c) where
-  kind-is : k ≡ rowAt (tableFor t f) (m .row) .kind
-  kind-is = let e : 4 * (f .decls + f .nodes + m .row) + 0 ≡ 4 * (f .decls + f .nodes + m .row) = omega arith in ek ∙ ap (λ (i : ℕ). getD t i 0) e
-
+-- ---- the row: k, a, b and c are its words, as the code reads them
+module _ (own : List ℕ) (m : Machine) (cells l : List ℕ) (at : ℕ) {k a b c : ℕ} (ek : k ≡ getD own (4 * (34 + 1024 + m .row) + 0) 0)
+    (ea : a ≡ rowAt (ownTable own) (m .row) .a) (eb : b ≡ rowAt (ownTable own) (m .row) .b) (ec : c ≡ rowAt (ownTable own) (m .row) .c) where
   abbrev ruled : Row → ℕ → ℕ → ℕ → Out Move
-  ruled r a b c = rowRule (places f) (tableFor t f) (stateOf t f m cells) (m .row) r a b c (drop at l)
+  ruled r a b c = rowRule (placesOf own) (ownTable own) (ownState own m cells) (m .row) r a b c (drop at l)
 
-  abbrev stepping : Out Move
-  stepping = step (places f) (tableFor t f) (stateOf t f m cells) (drop at l)
-
-  pub step-by : (r : Row) {o : Out Move} → rowKind k ≡ r → o ≡ ruled r a b c → o ≡ stepping
+  by-kind : (r : Row) → rowKind k ≡ r → ruled r a b c ≡ step (placesOf own) (ownTable own) (ownState own m cells) (drop at l)
   unfolding step stepAt
-  step-by r e q =
-      q ∙ ap (λ (r : Row). ruled r a b c) (sym e ∙ ap rowKind kind-is)
-      ∙ ap (λ (a : ℕ). ruled (rowKind (rowAt (tableFor t f) (m .row) .kind)) a b c) ea
-      ∙ ap (λ (b : ℕ). ruled (rowKind (rowAt (tableFor t f) (m .row) .kind)) (rowAt (tableFor t f) (m .row) .a) b c) eb
-      ∙ ap (λ (c : ℕ). ruled (rowKind (rowAt (tableFor t f) (m .row) .kind)) (rowAt (tableFor t f) (m .row) .a) (rowAt (tableFor t f) (m .row) .b) c) ec
+  by-kind r e = rw (← e, kind-read own (m .row) ek, ea, eb, ec)
 
-  pub step-store : {o : Out Move} → rowKind k ≡ store → o ≡ ruled store a b 0 → o ≡ stepping
+  -- a row of the kind n
+  pub step-of : (n : ℕ) {z : Worked} → k ≡ n → RowWorks own m cells l (rowKind n) a b c (drop at l) z → StepWorks own m cells l at z
+  step-of n e h = works-same h (by-kind (rowKind n) (ap rowKind e))
+
+  pub step-skip : k ≡ 32 → StepWorks own m cells l at (Moves Goes at)
+  unfolding rowKind rowRule
+  step-skip e = step-of 32 e (works-goes refl)
+
+  pub step-none : k ≢ 32 → k ≢ 33 → k ≢ 34 → k ≢ 35 → k ≢ 36 → k ≢ 37 → k ≢ 38 → k ≢ 39 → k ≢ 40 → k ≢ 41 → k ≢ 42
+      → StepWorks own m cells l at (Not Stuck at)
   unfolding rowRule
-  step-store e q = step-by store e q
+  step-none h32 h33 h34 h35 h36 h37 h38 h39 h40 h41 h42 =
+      works-same (works-stuck refl) (by-kind noRow (no-row k h32 h33 h34 h35 h36 h37 h38 h39 h40 h41 h42))
 
-  pub step-reduced : {o : Out Move} → rowKind k ≡ reducedStore → o ≡ ruled reducedStore a b 0 → o ≡ stepping
-  unfolding rowRule
-  step-reduced e q = step-by reducedStore e q
-
-  pub step-none : k ≢ 32 → k ≢ 33 → k ≢ 34 → k ≢ 35 → k ≢ 36 → k ≢ 37 → k ≢ 38 → k ≢ 39 → k ≢ 40 → k ≢ 41 → k ≢ 42 → moveOut t f m cells l OStuck ≡ stepping
-  unfolding rowRule outcomeOut
-  step-none h32 h33 h34 h35 h36 h37 h38 h39 h40 h41 h42 = step-by noRow (no-row k h32 h33 h34 h35 h36 h37 h38 h39 h40 h41 h42) refl
-
-  pub step-opens : (d : Bool) → rowKind k ≡ loopRow d → nestAt (tableFor t f) (m .row) ≡ opens
-  step-opens d e = ap nestOf (ap rowKind (sym kind-is) ∙ e) ∙ go d
+  -- what rows 38 and 42 ask for
+  pub step-opens : (class : Bool) → rowKind k ≡ loopRow class → Within own m cells → LoopFits own (m .numbers) (m .row) (m .row) (m .«open»)
+  step-opens class e w = record {
+    decls = w .decls;
+    rows = w .rows;
+    here = omega arith;
+    row = omega arith;
+    depth = w .inner (ap (λ (j : ℕ). nestOf (rowKind j)) (sym (kind-read own (m .row) ek)) ∙ ap nestOf e ∙ go class);
+    numbers = w .sized .numbers;
+    bools = w .bools;
+  }
     where
       go : (d : Bool) → nestOf (loopRow d) ≡ opens
       go true = refl
       go false = refl
+
+-- what row 39 asks for
+pub step-closes : (own : List ℕ) (m : Machine) (cells : List ℕ) → Within own m cells
+    → RepeatFits own (m .numbers) (m .«loop_rows») (m .starts) (m .ends) (m .row) (m .«open»)
+step-closes own m cells w = record {
+  words = w .words;
+  decls = w .decls;
+  rows = w .rows;
+  here = omega arith;
+  loops = w .loops;
+  numbers = w .sized .numbers;
+  loopRows = w .sized .rows;
+  starts = w .sized .starts;
+  ends = w .sized .ends;
+  bools = w .bools;
+}

@@ -1,24 +1,43 @@
--- The variables of a fresh record.
+-- The record of a fresh run.
 use Prim.Native.Nat.{ℕ}
 use mathlib.Core.List.{List}
+use lib.ListN.{replicate}
+use lib.Dec.{ltb}
+use Rattle.lists.specs.If.{if_then_else_}
 use Rattle.lists.specs.Tab.{tab}
 use Rattle.model.specs.Class.{class}
 use Rattle.model.specs.State.{Value, startOf}
-use Rattle.machine.specs.declared.frame.Frame.{Frame}
-use Rattle.machine.specs.declared.variables.Sort.{Sort}
-use Rattle.machine.specs.declared.variables.Sort.the-variants.{Bool, Uint, Class, Pointer}
-use Rattle.machine.specs.View.{kindOf, places, tableFor, sortIn}
+use Rattle.prepared.specs.declared.Frame.{Frame}
+use Rattle.prepared.specs.declared.Form.{Form}
+use Rattle.prepared.specs.declared.Form.the-variants.{Bool, Uint, Class, Pointer}
+use Rattle.prepared.specs.View.{kindOf, places, tableFor, formIn}
+use Rattle.machine.specs.declared.Machine.{Machine}
+use Rattle.machine.specs.CodeMoves.{columns}
 
 -- "Variables start at 0, false, or the pointer with no array and place 0"; "A marked iterator holds a class, at first that of 0."
-abbrev pub startBySort : List ℕ → Sort → ℕ
-startBySort ps Bool = 0
-startBySort ps Uint = 0
-startBySort ps Class = class ps 0
-startBySort ps Pointer = 0
+abbrev pub startByForm : List ℕ → Form → ℕ
+startByForm ps Bool = 0
+startByForm ps Uint = 0
+startByForm ps Class = class ps 0
+startByForm ps Pointer = 0
 
 unfoldable pub startNumber : List ℕ → Frame → ℕ → ℕ
-startNumber t f i = startBySort (places f) (sortIn t f i)
+startNumber t f i = startByForm (places f) (formIn t f i)
 
 -- the variables of the model's fresh state
 unfoldable pub freshVars : List ℕ → Frame → List Value
-freshVars t f = tab (f .decls) (startOf (places f) (kindOf f) (tableFor t f))
+freshVars t f = tab (f .counts .decls) (startOf (places f) (kindOf f) (tableFor t f))
+
+-- a record with nothing in it
+abbrev pub blankRecord : Machine
+blankRecord =
+    columns 0 (replicate 32 0) (replicate 32 0) 0 (replicate 8 0) (replicate 8 0) (replicate 8 0) 0 (replicate 16 0) (replicate 16 0) (replicate 16 0)
+
+-- the record of a fresh run: a blank one with the numbers that its variables start with
+abbrev pub freshNumber : List ℕ → Frame → ℕ → ℕ
+freshNumber t f i = if ltb i (f .counts .decls) then startNumber t f i else 0
+
+unfoldable pub freshRecord : List ℕ → Frame → Machine
+freshRecord t f =
+    columns 0 (tab 32 (freshNumber t f)) (replicate 32 0) 0 (replicate 8 0) (replicate 8 0) (replicate 8 0) 0 (replicate 16 0) (replicate 16 0)
+    (replicate 16 0)

@@ -1,73 +1,214 @@
--- What the parts of rows 32, 33, 35 to 39, 41 and 42 say.
-use Prim.Native.Nat.{ℕ, _+_}
-use mathlib.Core.Bool.{Bool, true, false, _&&_}
+-- What a row comes to, seen as the model's move, the record and the cells after a step, and what a row is lent.
+use mathlib.Core.Path.{_≡_}
+use Prim.Native.Nat.{ℕ, suc, _+_, _<_, _≤_}
 use mathlib.Core.List.{List}
-use lib.ListN.{getD, set}
-use lib.Dec.{ltb, leb, eqb}
+use lib.ListN.{length, getD, drop, set}
+use lib.Dec.{ltb, eqb}
 use Rattle.lists.specs.If.{if_then_else_}
-use Rattle.model.specs.Table.{Row}
-use Rattle.model.specs.Table.Row.{assert, assume}
+use mathlib.Core.Bool.{Bool, true, false}
+use Rattle.model.specs.Class.{class}
+use Rattle.model.specs.Table.{Table, Row, nestAt}
+use Rattle.model.specs.Table.Row.{store, reducedStore, loop, classLoop}
+use Rattle.model.specs.Table.Nest.{opens}
+use Rattle.model.specs.Work.{Out, Work, _>>=_, give, fail, choose}
+use Rattle.model.specs.Work.Out.{gives}
+use Rattle.model.specs.State.{Value, Array, State}
+use Rattle.model.specs.State.Value.{Uint, Class}
+use Rattle.model.specs.Eval.{keeps, indexOf}
+use Rattle.model.specs.Step.{Move as ModelMove, cleared, past, withLoops, pastEnd, put, loopAt, rowRule, step}
+use Rattle.model.specs.Step.Move.{to, stop}
+use Rattle.prepared.specs.declared.Form.the-variants.{Bool as FBool}
+use Rattle.prepared.specs.Own.{ownWords, placesOf, declsOf, rowsOf, ownTable, ownForm}
+use Rattle.evaluators.specs.CodeAnswers.{failed}
 use Rattle.machine.specs.declared.Machine.{Machine}
-use Rattle.machine.specs.declared.frame.Frame.{Frame}
-use Rattle.machine.specs.declared.answers.Answer.{Answer}
-use Rattle.machine.specs.declared.answers.Answer.the-variants.{Bool as ABool, Uint as AUint, Pointer as APointer, Fails, BadChoice, NoChoice, Stuck}
-use Rattle.machine.specs.declared.variables.Sort.{Sort}
-use Rattle.machine.specs.declared.variables.Sort.the-variants.{Bool as SBool, Uint as SUint, Class as SClass, Pointer as SPointer}
-use Rattle.machine.specs.declared.rows.Outcome.{Outcome}
-use Rattle.machine.specs.declared.rows.Outcome.the-variants.{Goes, AssertFalse, AssumeFalse, Fails as OFails, BadChoice as OBad, NoChoice as ONone}
-use Rattle.machine.specs.declared.rows.Outcome.the-variants.{Stuck as OStuck}
-use Rattle.machine.specs.declared.rows.Stepped.{Stepped}
-use Rattle.machine.specs.View.{sortIn}
+use Rattle.machine.specs.declared.Move.{Move}
+use Rattle.machine.specs.declared.Move.the-variants.{Goes, Puts, Writes, Lays, Enters, Leaves}
+use Rattle.machine.specs.declared.Worked.{Worked}
+use Rattle.machine.specs.declared.Worked.the-variants.{Moves, Ends, Not}
+use Rattle.machine.specs.View.{endOf, loopsOf, ownState}
 
--- ---- ends of a row: of an operand that gave no value of its type, and of a bool that is false in 36 or 35
-abbrev pub endedOf : Answer → Outcome
-endedOf (ABool b at) = OStuck
-endedOf (AUint x at) = OStuck
-endedOf (APointer r p at) = OStuck
-endedOf (Fails at) = OFails at
-endedOf BadChoice = OBad
-endedOf NoChoice = ONone
-endedOf Stuck = OStuck
-
--- "002 sends assert and assume to one failure; here they differ."
-abbrev pub testRow : Bool → Row
-testRow true = assume
-testRow false = assert
-
-abbrev pub falseEnd : Bool → ℕ → Outcome
-falseEnd true at = AssumeFalse at
-falseEnd false at = AssertFalse at
-
--- ---- a variable that gets a value
--- the sort of what a variable holds, by the model's numbers; 0 for a bool's slot with a number that is no bool
-abbrev pub heldSort : Sort → ℕ → ℕ
-heldSort SBool x = if leb x 1 then 1 else 0
-heldSort SUint x = 2
-heldSort SClass x = 4
-heldSort SPointer x = 3
-
--- variable a is there and takes a value of the sort k
-unfoldable pub fitsIn : List ℕ → Frame → List ℕ → ℕ → ℕ → Bool
-fitsIn t f ns a k = ltb a (f .decls) && eqb (heldSort (sortIn t f a) (getD ns a 0)) k
-
-abbrev pub stepped : Machine → Outcome → Stepped
-stepped m o = record { machine = m; outcome = o }
-
--- the record with a variable's number and base, and another row
-abbrev pub withValue : Machine → ℕ → ℕ → ℕ → ℕ → Machine
-withValue m a x base row = record {
+-- ---- the record by its columns
+abbrev pub columns : ℕ → List ℕ → List ℕ → ℕ → List ℕ → List ℕ → List ℕ → ℕ → List ℕ → List ℕ → List ℕ → Machine
+columns row numbers bases loops rows starts ends count firsts lengths shapes = record {
   row = row;
-  «open» = m .«open»;
-  «loop_rows» = m .«loop_rows»;
-  starts = m .starts;
-  ends = m .ends;
-  numbers = set (m .numbers) a x;
-  bases = set (m .bases) a base;
-  count = m .count;
-  firsts = m .firsts;
-  lengths = m .lengths;
-  shapes = m .shapes;
+  numbers = numbers;
+  bases = bases;
+  «open» = loops;
+  «loop_rows» = rows;
+  starts = starts;
+  ends = ends;
+  count = count;
+  firsts = firsts;
+  lengths = lengths;
+  shapes = shapes;
 }
 
-unfoldable pub putIn : List ℕ → Frame → Machine → ℕ → ℕ → ℕ → ℕ → ℕ → Stepped
-putIn t f m a k x base at = if fitsIn t f (m .numbers) a k then stepped (withValue m a x base (m .row + 1)) (Goes at) else stepped m OStuck
+-- ---- the record after a step: on the next row; with a variable's number and base; with a new array, for a pointer; with a loop entered, or left
+abbrev pub passed : Machine → Machine
+passed m = columns (m .row + 1) (m .numbers) (m .bases) (m .«open») (m .«loop_rows») (m .starts) (m .ends) (m .count) (m .firsts) (m .lengths) (m .shapes)
+
+abbrev pub withValue : Machine → ℕ → ℕ → ℕ → Machine
+withValue m a x base =
+    columns (m .row + 1) (set (m .numbers) a x) (set (m .bases) a base) (m .«open») (m .«loop_rows») (m .starts) (m .ends) (m .count) (m .firsts)
+    (m .lengths) (m .shapes)
+
+abbrev pub withLaid : Machine → ℕ → ℕ → ℕ → Bool → Machine
+withLaid m a first len reduced =
+    columns (m .row + 1) (set (m .numbers) a 0) (set (m .bases) a (m .count + 1)) (m .«open») (m .«loop_rows») (m .starts) (m .ends) (m .count + 1)
+    (set (m .firsts) (m .count) first) (set (m .lengths) (m .count) len) (set (m .shapes) (m .count) (if reduced then 1 else 0))
+
+abbrev pub entered : Machine → ℕ → ℕ → ℕ → ℕ → ℕ → ℕ → Machine
+entered m a x row depth from upto =
+    columns (row + 1) (set (m .numbers) a x) (m .bases) (depth + 1) (set (m .«loop_rows») depth row) (set (m .starts) depth from)
+    (set (m .ends) depth upto) (m .count) (m .firsts) (m .lengths) (m .shapes)
+
+abbrev pub exited : Machine → ℕ → ℕ → ℕ → ℕ → Machine
+exited m a x depth next =
+    columns next (set (m .numbers) a x) (m .bases) depth (m .«loop_rows») (m .starts) (m .ends) (m .count) (m .firsts) (m .lengths) (m .shapes)
+
+unfoldable pub stepOf : Machine → Move → Machine
+stepOf m Goes = passed m
+stepOf m (Puts a x base) = withValue m a x base
+stepOf m (Writes i x) = passed m
+stepOf m (Lays a first len size reduced) = withLaid m a first len reduced
+stepOf m (Enters a x row depth from upto) = entered m a x row depth from upto
+stepOf m (Leaves a x depth next) = exited m a x depth next
+
+-- ---- ... and the cells
+unfoldable pub cellsOf : List ℕ → Move → List ℕ
+cellsOf cells Goes = cells
+cellsOf cells (Puts a x base) = cells
+cellsOf cells (Writes i x) = set cells i x
+cellsOf cells (Lays a first len size reduced) = cleared first size cells
+cellsOf cells (Enters a x row depth from upto) = cells
+cellsOf cells (Leaves a x depth next) = cells
+
+-- ---- what a row came to, with a cursor into the list l
+unfoldable pub moveOut : List ℕ → Machine → List ℕ → List ℕ → Worked → Out ModelMove
+moveOut own m cells l (Moves x at) = gives (to (ownState own (stepOf m x) (cellsOf cells x))) (drop at l)
+moveOut own m cells l (Ends e at) = gives (stop (endOf e)) (drop at l)
+moveOut own m cells l (Not why at) = failed l at why
+
+-- ---- the bounds of a step, for a record with so many arrays and so many cells lent
+abbrev pub Can : ℕ → ℕ → Move → Type 0
+Can count room Goes = Unit {0}
+Can count room (Puts a x base) = a < 32
+Can count room (Writes i x) = i < room
+Can count room (Lays a first len size reduced) = (a < 32) × (count < 16) × (first + size ≤ room)
+Can count room (Enters a x row depth from upto) = (a < 32) × (row < 256) × (depth < 8)
+Can count room (Leaves a x depth next) = (a < 32) × (next ≤ 256)
+
+unfoldable pub CanDo : ℕ → ℕ → Worked → Type 0
+CanDo count room (Moves x at) = Can count room x
+CanDo count room (Ends e at) = Unit {0}
+CanDo count room (Not why at) = Unit {0}
+
+-- ---- what a row comes to is o, and its step is within its bounds
+pub record Works (own : List ℕ) (m : Machine) (cells l : List ℕ) (r : Worked) (o : Out ModelMove) : Type 0 where
+  pub said : moveOut own m cells l r ≡ o
+  pub can : CanDo (m .count) (length cells) r
+
+-- ... of a row of the kind k at which the record stands, by its operands, under the choices cs
+abbrev pub RowWorks : List ℕ → Machine → List ℕ → List ℕ → Row → ℕ → ℕ → ℕ → List ℕ → Worked → Type 0
+RowWorks own m cells l k a b c cs r = Works own m cells l r (rowRule (placesOf own) (ownTable own) (ownState own m cells) (m .row) k a b c cs)
+
+-- ... of the row where the record stands: the model's step, read as a move
+abbrev pub StepWorks : List ℕ → Machine → List ℕ → List ℕ → ℕ → Worked → Type 0
+StepWorks own m cells l at r = Works own m cells l r (step (placesOf own) (ownTable own) (ownState own m cells) (drop at l))
+
+-- ---- what a row is lent: a table and a record within the bounds of the checks
+-- "a variable not of its type" is in no record that a run keeps: every bool is 0 or 1
+pub record BoolsFit (own ns : List ℕ) : Type 0 where
+  pub small : (i : ℕ) → i < declsOf own → ownForm own i ≡ FBool → getD ns i 0 ≤ 1
+
+-- the record's columns are as long as its type says
+pub record Sized (m : Machine) : Type 0 where
+  pub numbers : length (m .numbers) ≡ 32
+  pub bases : length (m .bases) ≡ 32
+  pub rows : length (m .«loop_rows») ≡ 8
+  pub starts : length (m .starts) ≡ 8
+  pub ends : length (m .ends) ≡ 8
+  pub firsts : length (m .firsts) ≡ 16
+  pub lengths : length (m .lengths) ≡ 16
+  pub shapes : length (m .shapes) ≡ 16
+
+-- "Declarations come first (at most 32), then nodes (1,024), then instruction rows (256)"; "at most 16 arrays"; by 11 ("loop inside eight") at
+-- most eight open loops; bools that 15 does not refuse
+pub record Within (own : List ℕ) (m : Machine) (cells : List ℕ) : Type 0 where
+  pub words : length own ≡ ownWords
+  pub sized : Sized m
+  pub decls : declsOf own ≤ 32
+  pub rows : rowsOf own ≤ 256
+  pub row : m .row < rowsOf own
+  pub count : m .count ≤ 16
+  pub loops : m .«open» ≤ 8
+  pub inner : nestAt (ownTable own) (m .row) ≡ opens → m .«open» < 8
+  pub room : length cells ≤ 4294967295
+  pub bools : BoolsFit own (m .numbers)
+
+-- ---- 34 and 40, with the operands worked out
+abbrev pub storeRow : Bool → Row
+storeRow true = reducedStore
+storeRow false = store
+
+-- place v of an array gets x, by 40: "fails if it is not below the length; a tracked place is written, any other write is dropped"
+abbrev pub keptIn : List ℕ → State → ℕ → Array → ℕ → Work ModelMove
+keptIn ps s x r v = if ltb v (r .len) then (if keeps ps r v then put ps s r (indexOf ps r v) x else give (to (past s))) else fail
+
+-- place p of an array gets x, by 40 or by 34: what the model's `reducedWrite` and `write` do with the array
+abbrev pub storeIn : Bool → List ℕ → State → ℕ → ℕ → Array → Work ModelMove
+storeIn true ps s p x r = (if r .reduced then choose (λ v. eqb (class ps v) (class ps p)) else give p) >>= keptIn ps s x r
+storeIn false ps s p x r = if ltb p (r .len) then put ps s r p x else fail
+
+-- what a write comes to is o of the state, whatever the record and the cells, of which so many are lent
+pub record Stores (own l : List ℕ) (room : ℕ) (r : Worked) (o : State → Out ModelMove) : Type 0 where
+  pub stores : (m : Machine) (cells : List ℕ) → length cells ≡ room → Works own m cells l r (o (ownState own m cells))
+
+-- ---- 38, 42 and 39, with start and end worked out
+abbrev pub loopRow : Bool → Row
+loopRow true = classLoop
+loopRow false = loop
+
+-- what the iterator gets for a start
+abbrev pub iterOf : List ℕ → Bool → ℕ → Value
+iterOf ps true x = Class (class ps x)
+iterOf ps false x = Uint x
+
+-- where a loop that is not entered goes on: past the row `here` that repeats it, or past its end row
+abbrev pub outBy : Bool → ℕ → Table → ℕ → Work ℕ
+outBy true here t row = give (suc here)
+outBy false here t row = pastEnd t row
+
+-- the state with no more than the outermost loops open, so many
+abbrev pub outer : List ℕ → Machine → List ℕ → ℕ → State
+outer own m cells depth = withLoops (ownState own m cells) (loopsOf depth (m .«loop_rows») (m .starts) (m .ends))
+
+-- what a loop asks for: a table within the bounds, a row where the record stands and one of a loop, room for one more loop, and bools
+pub record LoopFits (own ns : List ℕ) (h r d : ℕ) : Type 0 where
+  pub decls : declsOf own ≤ 32
+  pub rows : rowsOf own ≤ 256
+  pub here : h < 256
+  pub row : r < 256
+  pub depth : d < 8
+  pub numbers : length ns ≡ 32
+  pub bools : BoolsFit own ns
+
+-- ... and row 39: so many open loops, by their columns
+pub record RepeatFits (own ns rs ss es : List ℕ) (h n : ℕ) : Type 0 where
+  pub words : length own ≡ ownWords
+  pub decls : declsOf own ≤ 32
+  pub rows : rowsOf own ≤ 256
+  pub here : h < 256
+  pub loops : n ≤ 8
+  pub numbers : length ns ≡ 32
+  pub loopRows : length rs ≡ 8
+  pub starts : length ss ≡ 8
+  pub ends : length es ≡ 8
+  pub bools : BoolsFit own ns
+
+-- what the loop of a row comes to is the model's, whatever the rest of the record
+pub record LoopWorks (own ns l : List ℕ) (here row : ℕ) (c : Bool) (x y depth : ℕ) (again : Bool) (at : ℕ) (r : Worked) : Type 0 where
+  pub loops : («open» count : ℕ) (bs rows starts ends fs ls hs cells : List ℕ) → length rows ≡ 8 → length starts ≡ 8 → length ends ≡ 8
+      → Works own (columns here ns bs «open» rows starts ends count fs ls hs) cells l r
+          (loopAt (placesOf own) (ownTable own) (outer own (columns here ns bs «open» rows starts ends count fs ls hs) cells depth) row (loopRow c) x y
+          (outBy again here (ownTable own) row) (drop at l))

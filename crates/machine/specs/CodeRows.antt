@@ -1,178 +1,157 @@
--- What a row comes to, seen as the model's move, and what the parts of rows 34 and 40 say.
+-- What the parts of the rows say, as the code groups them: each is an equation, so that the choice writer's rows use them too.
 use mathlib.Core.Path.{_≡_}
-use Prim.Native.Nat.{ℕ, _+_}
-use mathlib.Core.Bool.{Bool, true, false}
+use Prim.Native.Nat.{ℕ, suc, _+_, _*_}
+use mathlib.Core.Bool.{Bool, true, false, _&&_, _||_}
 use mathlib.Core.List.{List}
-use lib.ListN.{length, drop, set}
-use lib.Dec.{ltb, eqb}
-use Rattle.machine.specs.CodeAnswers.{Lent, arraysIn, operand}
+use lib.ListN.{getD}
+use lib.Dec.{ltb, leb, eqb}
 use Rattle.lists.specs.If.{if_then_else_}
-use Rattle.model.specs.Class.{class}
-use Rattle.model.specs.Table.Ty.{uint, pointer}
-use Rattle.model.specs.Work.{Out, Work, next, _>>=_, give, fail, wrong, choose}
-use Rattle.model.specs.Work.Out.{gives, fails, badChoice, noChoice, stuck}
-use Rattle.model.specs.State.{Array}
-use Rattle.model.specs.Eval.{Ptr, ptr, arrayOf, sizeOf, keeps, indexOf}
-use Rattle.model.specs.Step.{Move}
-use Rattle.model.specs.Step.End.{assertFalse, assumeFalse, wantOfCells}
-use Rattle.model.specs.Step.Move.{to, stop}
-use Rattle.machine.specs.declared.Machine.{Machine}
-use Rattle.machine.specs.declared.frame.Frame.{Frame}
-use Rattle.machine.specs.declared.answers.Answer.{Answer}
-use Rattle.machine.specs.declared.answers.Answer.the-variants.{Bool as ABool, Uint as AUint, Pointer as APointer, Fails, BadChoice, NoChoice, Stuck}
-use Rattle.machine.specs.declared.rows.Outcome.{Outcome}
-use Rattle.machine.specs.declared.rows.Outcome.the-variants.{Goes, AssertFalse, AssumeFalse, WantOfCells, Fails as OFails, BadChoice as OBad}
-use Rattle.machine.specs.declared.rows.Outcome.the-variants.{NoChoice as ONone, Stuck as OStuck}
-use Rattle.machine.specs.declared.writes.Operands.{Operands}
-use Rattle.machine.specs.declared.writes.Operands.the-variants.{Both, Fails as BFails, BadChoice as BBad, NoChoice as BNone, Stuck as BStuck}
-use Rattle.machine.specs.declared.writes.Spot.{Spot}
-use Rattle.machine.specs.declared.writes.Spot.the-variants.{At, Dropped, Fails as SFails, BadChoice as SBad, NoChoice as SNone, Stuck as SStuck}
-use Rattle.machine.specs.View.{places, stateOf}
+use Rattle.lists.specs.Tab.{sum}
+use Rattle.lists.specs.declared.Found.{Found}
+use Rattle.lists.specs.declared.Found.the-variants.{At, Nothing}
+use Rattle.model.specs.Class.{class, tracked}
+use Rattle.model.specs.Table.{rowAt, matchingEnd}
+use Rattle.prepared.specs.declared.Form.{Form}
+use Rattle.prepared.specs.declared.Form.the-variants.{Bool as FBool, Uint as FUint, Class as FClass, Pointer as FPointer}
+use Rattle.prepared.specs.Own.{placesOf, declsOf, rowsOf, ownTable, ownForm}
+use Rattle.evaluators.specs.declared.arrays.Target.{Target}
+use Rattle.evaluators.specs.declared.arrays.Target.the-variants.{Array as To, Missing, Unknown}
+use Rattle.evaluators.specs.declared.answers.Failure.the-variants.{Fails, BadChoice, NoChoice, Stuck}
+use Rattle.evaluators.specs.declared.answers.Answer.{Answer}
+use Rattle.evaluators.specs.declared.answers.Answer.the-variants.{Bool as ABool, Uint as AUint, Pointer as APointer, Not as NoValue}
+use Rattle.machine.specs.declared.End.the-variants.{AssertFalse, AssumeFalse, WantOfCells}
+use Rattle.machine.specs.declared.Move.the-variants.{Goes, Puts, Writes, Lays, Enters, Leaves}
+use Rattle.machine.specs.declared.Worked.{Worked}
+use Rattle.machine.specs.declared.Worked.the-variants.{Moves, Ends, Not}
 
--- ---- outcomes
--- what a row came to, with a cursor into the list l; `on` is where it goes on
-unfoldable pub outcomeOut : Move → List ℕ → Outcome → Out Move
-outcomeOut on l (Goes at) = gives on (drop at l)
-outcomeOut on l (AssertFalse at) = gives (stop assertFalse) (drop at l)
-outcomeOut on l (AssumeFalse at) = gives (stop assumeFalse) (drop at l)
-outcomeOut on l (WantOfCells at) = gives (stop wantOfCells) (drop at l)
-outcomeOut on l (OFails at) = fails (drop at l)
-outcomeOut on l OBad = badChoice
-outcomeOut on l ONone = noChoice
-outcomeOut on l OStuck = stuck
+-- the row's failing end where an operand gave no value of the type that the row takes
+abbrev pub lostOf : Answer → Worked
+lostOf (ABool b at) = Not Stuck 0
+lostOf (AUint x at) = Not Stuck 0
+lostOf (APointer r p at) = Not Stuck 0
+lostOf (NoValue why at) = Not why at
 
-abbrev pub moveOut : List ℕ → Frame → Machine → List ℕ → List ℕ → Outcome → Out Move
-moveOut t f m cells l o = outcomeOut (to (stateOf t f m cells)) l o
+-- a row that goes on by k with its operand's value, where that is of the type that the row takes
+unfoldable pub onBool : (Bool → ℕ → Worked) → Answer → Worked
+onBool k (ABool b at) = k b at
+onBool k (AUint x at) = lostOf (AUint x at)
+onBool k (APointer r p at) = lostOf (APointer r p at)
+onBool k (NoValue why at) = lostOf (NoValue why at)
 
--- "A step that ends a run counts and changes nothing else in the record or the cells"
-unfoldable pub Still : Outcome → Type 0 → Type 0
-Still (Goes at) same = Unit {0}
-Still (AssertFalse at) same = same
-Still (AssumeFalse at) same = same
-Still (WantOfCells at) same = same
-Still (OFails at) same = same
-Still OBad same = same
-Still ONone same = same
-Still OStuck same = same
+unfoldable pub onUint : (ℕ → ℕ → Worked) → Answer → Worked
+onUint k (ABool b at) = lostOf (ABool b at)
+onUint k (AUint x at) = k x at
+onUint k (APointer r p at) = lostOf (APointer r p at)
+onUint k (NoValue why at) = lostOf (NoValue why at)
 
-abbrev pub Unmoved : Outcome → Machine → Machine → List ℕ → List ℕ → Type 0
-Unmoved o m n cs ds = Still o ((m ≡ n) × (cs ≡ ds))
+unfoldable pub onPointer : (ℕ → ℕ → ℕ → Worked) → Answer → Worked
+onPointer k (ABool b at) = lostOf (ABool b at)
+onPointer k (AUint x at) = lostOf (AUint x at)
+onPointer k (APointer r p at) = k r p at
+onPointer k (NoValue why at) = lostOf (NoValue why at)
 
-abbrev pub Unwritten : Outcome → List ℕ → List ℕ → Type 0
-Unwritten o cs ds = Still o (cs ≡ ds)
+-- ---- 33
+-- the form of value that a variable holds, as a number; 0 for a bool with another number than 0 and 1
+abbrev pub heldForm : Form → ℕ → ℕ
+heldForm FBool x = if leb x 1 then 1 else 0
+heldForm FUint x = 2
+heldForm FClass x = 4
+heldForm FPointer x = 3
 
--- ---- the two operands of 34 and 40
-pub record Write : Type 0 where
-  pub place : Ptr
-  pub number : ℕ
+-- variable a is there and holds a value of the form k
+unfoldable pub fitsIn : List ℕ → List ℕ → ℕ → ℕ → Bool
+fitsIn own ns a k = ltb a (declsOf own) && eqb (heldForm (ownForm own a) (getD ns a 0)) k
 
-abbrev pub writeTo : Ptr → ℕ → Write
-writeTo p x = record { place = p; number = x }
+unfoldable pub putOf : List ℕ → List ℕ → ℕ → ℕ → ℕ → ℕ → ℕ → Worked
+putOf own ns a k x base at = if fitsIn own ns a k then Moves (Puts a x base) at else Not Stuck at
 
--- "Row 34 works out both operands, then tests the cell.": nodes a and b, both below n
-unfoldable pub bothOf : Lent → ℕ → ℕ → ℕ → Work Write
-bothOf e n a b = do
-  p ← operand e pointer n a
-  x ← operand e uint n b
-  give (writeTo p x)
+abbrev pub putBool : List ℕ → List ℕ → ℕ → Answer → Worked
+putBool own ns a = onBool (λ b at. putOf own ns a 1 (if b then 1 else 0) 0 at)
 
-unfoldable pub bothOut : List ℕ → Operands → Out Write
-bothOut l (Both r p x at) = gives (writeTo (ptr r p) x) (drop at l)
-bothOut l (BFails at) = fails (drop at l)
-bothOut l BBad = badChoice
-bothOut l BNone = noChoice
-bothOut l BStuck = stuck
+abbrev pub putUint : List ℕ → List ℕ → ℕ → Answer → Worked
+putUint own ns a = onUint (λ x at. putOf own ns a 2 x 0 at)
 
-abbrev pub endedBoth : Answer → Operands
-endedBoth (ABool b at) = BStuck
-endedBoth (AUint x at) = BStuck
-endedBoth (APointer r p at) = BStuck
-endedBoth (Fails at) = BFails at
-endedBoth BadChoice = BBad
-endedBoth NoChoice = BNone
-endedBoth Stuck = BStuck
+abbrev pub putPointer : List ℕ → List ℕ → ℕ → Answer → Worked
+putPointer own ns a = onPointer (λ r p at. putOf own ns a 3 p r at)
 
-abbrev pub outcomeOf : Operands → Outcome
-outcomeOf (Both r p x at) = OStuck
-outcomeOf (BFails at) = OFails at
-outcomeOf BBad = OBad
-outcomeOf BNone = ONone
-outcomeOf BStuck = OStuck
+-- ---- 35, or 36
+abbrev pub testedOf : Bool → Answer → Worked
+testedOf assume = onBool (λ b at. if b then Moves Goes at else Ends (if assume then AssumeFalse else AssertFalse) at)
 
--- ---- where a write lands: on a cell, or nowhere
-pub data Landing : Type 0 where
-  onCell : ℕ → Landing
-  nowhere : Landing
+-- ---- 37, or 41
+-- of a reduced array "its cells are as many as the class of that length"; of a plain one, as many as its length
+abbrev pub sizeFor : List ℕ → ℕ → Bool → ℕ
+sizeFor ps len reduced = if reduced then class ps len else len
 
-unfoldable pub spotOut : List ℕ → Spot → Out Landing
-spotOut l (At i at) = gives (onCell i) (drop at l)
-spotOut l (Dropped at) = gives nowhere (drop at l)
-spotOut l (SFails at) = fails (drop at l)
-spotOut l SBad = badChoice
-spotOut l SNone = noChoice
-spotOut l SStuck = stuck
+-- the cells of the arrays, by the columns of their lengths and shapes
+abbrev pub sizeAt : List ℕ → List ℕ → List ℕ → ℕ → ℕ
+sizeAt ps ls hs i = sizeFor ps (getD ls i 0) (eqb (getD hs i 0) 1)
 
--- with the cursor at `at`, whatever the list
-pub record Spots (at : ℕ) (r : Spot) (m : Work Landing) : Type 0 where
-  pub spotted : (l : List ℕ) → spotOut l r ≡ m (drop at l)
+unfoldable pub usedIn : List ℕ → ℕ → List ℕ → List ℕ → ℕ
+usedIn ps n ls hs = sum n (sizeAt ps ls hs)
 
-abbrev pub spotEnd : Answer → Spot
-spotEnd (ABool b at) = SStuck
-spotEnd (AUint x at) = SStuck
-spotEnd (APointer r p at) = SStuck
-spotEnd (Fails at) = SFails at
-spotEnd BadChoice = SBad
-spotEnd NoChoice = SNone
-spotEnd Stuck = SStuck
+-- "16 arrays or the new cells don't fit after those laid"
+abbrev pub lacksRoom : ℕ → ℕ → ℕ → ℕ → Bool
+lacksRoom count used size cells = leb 16 count || ltb cells (used + size)
 
--- cell i of so many, laid from start on
-unfoldable pub spotIn : ℕ → ℕ → ℕ → Work Landing
-spotIn start size i = if ltb i size then give (onCell (start + i)) else wrong
+unfoldable pub layOf : List ℕ → List ℕ → List ℕ → List ℕ → ℕ → ℕ → Bool → ℕ → ℕ → ℕ → Worked
+layOf own ns ls hs count cells reduced a len at =
+    if fitsIn own ns a 3
+    then (if lacksRoom count (usedIn (placesOf own) count ls hs) (sizeFor (placesOf own) len reduced) cells
+    then Ends WantOfCells at
+    else Moves (Lays a (usedIn (placesOf own) count ls hs) len (sizeFor (placesOf own) len reduced) reduced) at)
+    else Not Stuck at
 
--- place v of an array, by 34
-unfoldable pub spotAt : List ℕ → ℕ → Array → Work Landing
-spotAt ps v r = if ltb v (r .len) then spotIn (r .start) (sizeOf ps r) v else fail
+abbrev pub laidOf : List ℕ → List ℕ → List ℕ → List ℕ → ℕ → ℕ → Bool → ℕ → Answer → Worked
+laidOf own ns ls hs count cells reduced a = onUint (layOf own ns ls hs count cells reduced a)
 
--- ... and by 40: "a tracked place is written, any other write is dropped"
-unfoldable pub spotKept : List ℕ → Array → ℕ → Work Landing
-spotKept ps r v =
-    if ltb v (r .len) then (if keeps ps r v then spotIn (r .start) (sizeOf ps r) (indexOf ps r v) else give nowhere) else fail
+-- ---- 34, and 40
+-- cell i of so many, laid from start on, gets x: it must be one of those lent
+unfoldable pub cellGets : ℕ → ℕ → ℕ → ℕ → ℕ → ℕ → Worked
+cellGets room start size i x at =
+    if ltb i size then (if ltb (start + i) room then Moves (Writes (start + i) x) at else Not Stuck at) else Not Stuck at
 
--- the place that 40 writes to, for a pointer to place p: on a reduced array "one choice in the class of the place"
-unfoldable pub placeOf : List ℕ → Bool → ℕ → Work ℕ
-placeOf ps reduced p = if reduced then choose (λ v. eqb (class ps v) (class ps p)) else give p
+-- place p of an array gets x, by 34
+unfoldable pub placeGets : List ℕ → ℕ → ℕ → ℕ → Bool → ℕ → ℕ → ℕ → Worked
+placeGets own room start len reduced p x at =
+    if ltb p len then cellGets room start (sizeFor (placesOf own) len reduced) p x at else Not Fails at
 
--- where 34 writes, and where 40 does
-unfoldable pub aimOf : List ℕ → List Array → Ptr → Work Landing
-aimOf ps rs p = arrayOf rs (p .array) >>= spotAt ps (p .place)
+-- ... by 40, of a reduced array: "a tracked place is written, any other write is dropped"
+unfoldable pub trackedGets : List ℕ → ℕ → ℕ → ℕ → ℕ → ℕ → ℕ → Worked
+trackedGets own room start len p x at =
+    if ltb p len
+    then (if tracked (placesOf own) p then cellGets room start (class (placesOf own) len) (class (placesOf own) p) x at else Moves Goes at)
+    else Not Fails at
 
-unfoldable pub aimReduced : List ℕ → List Array → Ptr → Work Landing
-aimReduced ps rs p = do
-  r ← arrayOf rs (p .array)
-  v ← placeOf ps (r .reduced) (p .place)
-  spotKept ps r v
+-- ... by 34, of the array that a pointer points to
+abbrev pub targetGets : List ℕ → ℕ → Target → ℕ → ℕ → ℕ → Worked
+targetGets own room (To start len reduced) p x at = placeGets own room start len reduced p x at
+targetGets own room Missing p x at = Not Fails at
+targetGets own room Unknown p x at = Not Stuck at
 
--- 40, or 34
-unfoldable pub aimBy : Bool → List ℕ → List Array → Ptr → Work Landing
-aimBy true ps rs p = aimReduced ps rs p
-aimBy false ps rs p = aimOf ps rs p
+-- ---- 38, 42 and 39
+abbrev pub iterForm : Bool → ℕ
+iterForm c = if c then 4 else 2
 
--- the write of x there, to one of the cells lent; `on` says where the row goes on with cells
-abbrev pub landed : (List ℕ → Move) → List ℕ → ℕ → Landing → Work Move
-landed on cells x (onCell i) = if ltb i (length cells) then give (on (set cells i x)) else wrong
-landed on cells x nowhere = give (on cells)
+abbrev pub iterNumber : List ℕ → Bool → ℕ → ℕ
+iterNumber ps c x = if c then class ps x else x
 
--- a write to z made of the cells cs the cells ds
-pub record Puts (z : Spot) (x : ℕ) (r : Outcome) (cs ds : List ℕ) : Type 0 where
-  pub put : (on : List ℕ → Move) (l : List ℕ) → outcomeOut (on ds) l r ≡ next (spotOut l z) (landed on cs x)
+-- the row to go to where the loop of a row is not entered: past the row `here` that repeats it, or past its end row; none where no row closes it
+unfoldable pub wayOut : List ℕ → ℕ → ℕ → Bool → Found
+wayOut own here row again =
+    if again then At (suc here)
+    else (if ltb (matchingEnd (ownTable own) row) (rowsOf own) then At (suc (matchingEnd (ownTable own) row)) else Nothing)
 
--- 40 or 34, of nodes a and b below n: both operands, then the write
-unfoldable pub writeBy : Bool → Lent → ℕ → ℕ → ℕ → (List ℕ → Move) → Work Move
-writeBy tracking e n a b on = do
-  w ← bothOf e n a b
-  i ← aimBy tracking (places (e .frame)) (arraysIn e) (w .place)
-  landed on (e .cells) (w .number) i
+-- the loop is left by that way
+abbrev pub leaveOf : Found → ℕ → ℕ → ℕ → ℕ → Worked
+leaveOf (At next) a v depth at = Moves (Leaves a v depth next) at
+leaveOf Nothing a v depth at = Not Stuck at
 
--- with the choices cs, what it came to is r, and the cells are ds
-pub record Writes (tracking : Bool) (e : Lent) (n a b : ℕ) (cs l : List ℕ) (r : Outcome) (ds : List ℕ) : Type 0 where
-  pub wrote : (on : List ℕ → Move) → outcomeOut (on ds) l r ≡ writeBy tracking e n a b on cs
+-- the loop of a row from a start to an end, inside `depth` open loops
+unfoldable pub entryOf : List ℕ → List ℕ → ℕ → ℕ → Bool → ℕ → ℕ → ℕ → Bool → ℕ → Worked
+entryOf own ns here row c from upto depth again at =
+    if fitsIn own ns (rowAt (ownTable own) row .a) (iterForm c)
+    then (if leb from upto
+    then Moves (Enters (rowAt (ownTable own) row .a) (iterNumber (placesOf own) c from) row depth from upto) at
+    else leaveOf (wayOut own here row again) (rowAt (ownTable own) row .a) (iterNumber (placesOf own) c from) depth at)
+    else Not Stuck at

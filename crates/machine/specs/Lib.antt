@@ -1,10 +1,6 @@
--- The machines: `View`, the record as the model's state; `Code..`, what the parts of the evaluators and of the rows say.
+-- The machines: `View`, the record as the model's state; `CodeMoves`, what a row comes to and the step it makes; `CodeRows`, what the parts of
+-- the rows say; `CodeFresh`, a fresh record.
 pub mod View
-pub mod CodeAnswers
-pub mod CodeLeaves
-pub mod CodeRows
 pub mod CodeMoves
-pub mod CodeLoops
-pub mod CodeNews
-pub mod CodeSteps
+pub mod CodeRows
 pub mod CodeFresh

@@ -1,152 +1,97 @@
-// The arrays: the one that a pointer points to, its cells, and whether a place is in it.
-// What is public here is for our crates above, which see to what it requires.
-use crate::answers::Answer;
-use crate::answers::any_choice;
-use crate::frame::Frame;
-use crate::frame::class_in;
-use crate::frame::is_tracked;
+// Rows 37 and 41: a new array.
+use crate::End;
+use crate::Machine;
+use crate::Move;
+use crate::Worked;
+use crate::values::fits;
+use crate::values::lost;
+use evaluators::answers::Answer;
+use evaluators::answers::Failure;
+use prepared::places::class_in;
 ghost use mathlib.Core.Path.{_≡_};
-ghost use Prim.Native.Nat.{_≤_};
-ghost use lib.ListN.{drop};
-ghost use Rattle.machine.specs.CodeAnswers.{outOf, Says};
-ghost use Rattle.model.specs.Table.Ty.{bool, uint};
-ghost use Rattle.model.specs.Eval.{ptr, arrayOf};
-ghost use Rattle.machine.specs.View.{places, arraysOf};
-ghost use Rattle.machine.specs.CodeLeaves.{Points, storedIn, trackedIn, readOf, loadOf, validIn};
+ghost use Prim.Native.Nat.{_≤_, _*_};
+ghost use Rattle.prepared.specs.Own.{declsOf, placesOf};
+ghost use Rattle.machine.specs.CodeRows.{sizeFor, usedIn, lacksRoom, layOf, laidOf};
 
-// An array's first cell, its length and whether it is reduced; no array; or one that the record lacks.
-pub enum Target {
-    Array(u32, u32, bool),
-    Missing,
-    Unknown,
-}
-
-pub fn pointed<'a>(
-    firsts: &'a [u32; 16],
-    lengths: &'a [u32; 16],
-    shapes: &'a [u8; 16],
-    count: u32,
-    to: u32,
-) -> Target
-    requires { ⌜ count ≤ 16 ⌝ }
-    ensures { λ r. ⌜ Points r (arrayOf (arraysOf count (now (firsts .entry)) (now (lengths .entry)) (now (shapes .entry))) to) ⌝ }
-{
-    if to == 0 {
-        return Target::Missing;
-    }
-    if count < to {
-        return Target::Unknown;
-    }
-    let i = (to - 1) as usize;
-    let shape = shapes[i];
-    Target::Array(firsts[i], lengths[i], shape == 1)
-}
-
-// Cell i of an array of so many cells, laid from start on.
-fn stored(cells: &[u32], start: u32, size: u32, i: u32, at: usize) -> Answer
-    ensures { λ r. ⌜ Says uint at r (storedIn (now (cells .entry)) start size i) ⌝ }
-{
-    if size <= i {
-        return Answer::Stuck;
-    }
-    let p = start as usize + i as usize;
-    if p < cells.len() {
-        return Answer::Uint(cells[p], at);
-    }
-    Answer::Stuck
-}
-
-// A place of a reduced array: a tracked one has a cell, any other takes a choice.
-fn tracked_cell(
-    cells: &[u32],
-    list: &[u32],
-    f: Frame,
-    start: u32,
-    len: u32,
-    place: u32,
-    at: usize,
-) -> Answer
-    ensures { λ r. ⌜ outOf uint (now (list .entry)) r ≡ trackedIn (places f) (now (cells .entry)) start len place (drop at (now (list .entry))) ⌝ }
-{
-    if is_tracked(f, place) {
-        return stored(cells, start, class_in(f, len), class_in(f, place), at);
-    }
-    any_choice(list, at)
-}
-
-// A place that is below the length: of a reduced array by 28 or by 19, or of a plain one.
-fn kept_cell(
-    tracking: bool,
-    cells: &[u32],
-    list: &[u32],
-    f: Frame,
-    start: u32,
-    len: u32,
-    reduced: bool,
-    place: u32,
-    at: usize,
-) -> Answer
-    ensures { λ r. ⌜ outOf uint (now (list .entry)) r ≡ readOf tracking (places f) (now (cells .entry)) start len reduced place (drop at (now (list .entry))) ⌝ }
+// How many cells an array of a length has.
+pub fn size_for(own: &[u32; 5256], len: u32, reduced: bool) -> u32
+    ensures { λ r. ⌜ r ≡ sizeFor (placesOf (now (own .entry))) len reduced ⌝ }
 {
     if reduced {
-        if tracking {
-            return tracked_cell(cells, list, f, start, len, place, at);
-        }
-        return stored(cells, start, class_in(f, len), place, at);
+        return class_in(own, len);
     }
-    stored(cells, start, len, place, at)
+    len
 }
 
-// 28, or 19, with its pointer worked out.
-pub fn cell<'a>(
-    tracking: bool,
-    cells: &[u32],
-    list: &[u32],
-    firsts: &'a [u32; 16],
-    lengths: &'a [u32; 16],
-    shapes: &'a [u8; 16],
-    f: Frame,
-    count: u32,
-    to: u32,
-    place: u32,
-    at: usize,
-) -> Answer
+// How many cells the arrays have.
+fn used_in<'a>(own: &[u32; 5256], ls: &'a [u32; 16], hs: &'a [u8; 16], count: u32) -> usize
     requires { ⌜ count ≤ 16 ⌝ }
-    ensures { λ r. ⌜ outOf uint (now (list .entry)) r ≡ loadOf tracking (places f) (arraysOf count (now (firsts .entry)) (now (lengths .entry)) (now (shapes .entry))) (now (cells .entry)) (ptr to place) (drop at (now (list .entry))) ⌝ }
+    ensures { λ r. ⌜ (r ≡ usedIn (placesOf (now (own .entry))) count (now (ls .entry)) (now (hs .entry))) × (r ≤ 16 * 4294967295) ⌝ }
 {
-    let x = pointed(firsts, lengths, shapes, count, to);
-    match x {
-        Target::Array(start, len, reduced) => {
-            if len <= place {
-                return Answer::Fails(at);
-            }
-            kept_cell(tracking, cells, list, f, start, len, reduced, place, at)
-        }
-        Target::Missing => Answer::Fails(at),
-        Target::Unknown => Answer::Stuck,
+    let n = count as usize;
+    let mut total: usize = 0;
+    let mut i: usize = 0;
+    while i < n {
+        let shape = hs[i];
+        let size = size_for(own, ls[i], shape == 1);
+        total = total + size as usize;
+        i += 1;
     }
+    total
 }
 
-// 26 and 29, with the pointer worked out.
-pub fn valid<'a>(
-    firsts: &'a [u32; 16],
-    lengths: &'a [u32; 16],
-    shapes: &'a [u8; 16],
-    count: u32,
-    to: u32,
-    place: u32,
-    at: usize,
-) -> Answer
-    requires { ⌜ count ≤ 16 ⌝ }
-    ensures { λ r. ⌜ Says bool at r (validIn (arraysOf count (now (firsts .entry)) (now (lengths .entry)) (now (shapes .entry))) to place) ⌝ }
+// Whether there is no room for one more array of so many cells.
+fn lacks_room(count: u32, used: usize, size: u32, cells: usize) -> bool
+    requires { ⌜ used ≤ 16 * 4294967295 ⌝ }
+    ensures { λ r. ⌜ r ≡ lacksRoom count used size cells ⌝ }
 {
-    if to == 0 {
-        return Answer::Bool(false, at);
+    (Machine::ARRAYS <= count) | (cells < used + size as usize)
+}
+
+// A new array of a length, for pointer a, in so many cells.
+fn lay<'a>(
+    own: &[u32; 5256],
+    ns: &'a [u32; 32],
+    ls: &'a [u32; 16],
+    hs: &'a [u8; 16],
+    count: u32,
+    cells: usize,
+    reduced: bool,
+    a: usize,
+    len: u32,
+    at: usize,
+) -> Worked
+    requires { ⌜ (declsOf (now own) ≤ 32) × (count ≤ 16) × (cells ≤ 4294967295) ⌝ }
+    ensures { λ r. ⌜ r ≡ layOf (now (own .entry)) (now (ns .entry)) (now (ls .entry)) (now (hs .entry)) count cells reduced a len at ⌝ }
+{
+    if fits(own, ns, a, 3) {
+        let size = size_for(own, len, reduced);
+        let used = used_in(own, ls, hs, count);
+        if lacks_room(count, used, size, cells) {
+            return Worked::Ends(End::WantOfCells, at);
+        }
+        return Worked::Moves(Move::Lays(a, used as u32, len, size, reduced), at);
     }
-    let x = pointed(firsts, lengths, shapes, count, to);
-    match x {
-        Target::Array(_, len, _) => Answer::Bool(place < len, at),
-        Target::Missing => Answer::Fails(at),
-        Target::Unknown => Answer::Stuck,
-    }
+    Worked::Not(Failure::Stuck, at)
+}
+
+// Row 37, or 41, with its length worked out.
+pub fn laid<'a>(
+    own: &[u32; 5256],
+    ns: &'a [u32; 32],
+    ls: &'a [u32; 16],
+    hs: &'a [u8; 16],
+    count: u32,
+    cells: usize,
+    reduced: bool,
+    a: usize,
+    x: Answer,
+) -> Worked
+    requires { ⌜ (declsOf (now own) ≤ 32) × (count ≤ 16) × (cells ≤ 4294967295) ⌝ }
+    ensures { λ r. ⌜ r ≡ laidOf (now (own .entry)) (now (ns .entry)) (now (ls .entry)) (now (hs .entry)) count cells reduced a x ⌝ }
+{
+    let Answer::Uint(len, at) = x else {
+        return lost(x);
+    };
+    lay(own, ns, ls, hs, count, cells, reduced, a, len, at)
 }

@@ -1,42 +1,75 @@
-// The machines: the record by value, the evaluators that work out a node from the record's columns, the rows, and one step.
-pub mod answers;
-pub mod arrays;
-mod assigns;
-mod choices;
-pub mod evaluators;
-pub mod frame;
-mod fresh;
-mod loops;
-pub mod news;
-pub mod nodes;
-pub mod rows;
-pub mod steps;
-mod tests;
-pub mod variables;
-mod writes;
+// The machines: the record by value, what a row comes to, worked out from the record's columns, and the step that makes the change.
+pub mod arrays; // arrays.rt: rows 37 and 41
+pub mod conditions; // conditions.rt: rows 35 and 36
+mod fresh; // fresh.rt: a fresh record and a blank one
+pub mod loops; // loops.rt: rows 38, 42 and 39
+pub mod moves; // moves.rt: the row where a record stands
+pub mod steps; // steps.rt: the steps
+pub mod values; // values.rt: row 33
+pub mod writes; // writes.rt: rows 34 and 40
 
-// The record: the row; the open loops, outermost first, each with its row, start and end; the variables, each with a number and, for a
-// pointer, its array counted from 1 (0 for none); the arrays, each with its first cell, its true length and its shape, 1 for a reduced one
-// and any other for a plain one. Slots past the open loops, the declarations or the arrays in use are no part of it.
+use evaluators::answers::Failure;
+
+// The ends of a run; "list full" is the choice writer's alone.
+pub enum End {
+    Done,
+    AssertFalse,
+    AssumeFalse,
+    Fail,
+    WantOfCells,
+    OutOfSteps,
+    ChoiceNotAllowed,
+    NoChoiceLeft,
+    ListFull,
+}
+
+// The record: the row; the variables, each with a number and, for a pointer, its array counted from 1 (0 for none); the open loops, outermost
+// first, each with its row, start and end; the arrays, each with its first cell, its true length and its shape, 1 for a reduced one and any
+// other for a plain one. Slots past the open loops, the declarations or the arrays in use are no part of it.
+// A number stands before each group of columns: so a change to one column copies that column and no other.
 pub struct Machine {
     pub row: u32,
+    pub numbers: [u32; Machine::VARIABLES],
+    pub bases: [u32; Machine::VARIABLES],
     pub open: u32,
-    pub loop_rows: [u32; 8],
-    pub starts: [u32; 8],
-    pub ends: [u32; 8],
-    pub numbers: [u32; 32],
-    pub bases: [u32; 32],
+    pub loop_rows: [u32; Machine::LOOPS],
+    pub starts: [u32; Machine::LOOPS],
+    pub ends: [u32; Machine::LOOPS],
     pub count: u32,
-    pub firsts: [u32; 16],
-    pub lengths: [u32; 16],
-    pub shapes: [u8; 16],
+    pub firsts: [u32; Machine::ARRAYS as usize],
+    pub lengths: [u32; Machine::ARRAYS as usize],
+    pub shapes: [u8; Machine::ARRAYS as usize],
 }
 
 impl Machine {
-    // The most arrays that a record has, and how many cells each machine has.
+    // The most variables, open loops and arrays that a record has, and how many cells each machine has.
+    pub const VARIABLES: usize = 32;
+
+    pub const LOOPS: usize = 8;
+
     pub const ARRAYS: u32 = 16;
 
     pub const PLAIN_CELLS: usize = 4096;
 
     pub const REDUCED_CELLS: usize = 4112;
+}
+
+// What a step changes: nothing but the row; variable a gets a number and a base; cell i gets a number; pointer a gets a new array (its first
+// cell, length, cells, and whether it is reduced); the loop of a row is entered (its iterator and the iterator's number, the row, how many
+// loops are open around it, start and end) or left (iterator and number, how many loops stay open, the row to go to).
+pub enum Move {
+    Goes,
+    Puts(usize, u32, u32),
+    Writes(usize, u32),
+    Lays(usize, u32, u32, u32, bool),
+    Enters(usize, u32, u32, u32, u32, u32),
+    Leaves(usize, u32, u32, u32),
+}
+
+// What a row comes to: a change, or the run's end, each with the place of the next choice; or why there is neither. A row that ends the run
+// changes nothing, by its type.
+pub enum Worked {
+    Moves(Move, usize),
+    Ends(End, usize),
+    Not(Failure, usize),
 }

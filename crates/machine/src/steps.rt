@@ -1,61 +1,151 @@
-// One step: the record's row, by its kind.
+// The steps: each takes the record and hands back the next one. A column that changes is taken out, changed and put back: so nothing of the
+// record is found by a computed place and nothing of it is lent here, and the compiler copies that column and no other. Each is small, and
+// `step` has one caller, for the same reason. For the loops of our crates above, which see to what is required.
 use crate::Machine;
-use crate::frame::Frame;
-use crate::rows::Outcome;
-use crate::rows::Stepped;
-use lists::word_or_zero;
+use crate::Move;
 ghost use mathlib.Core.Path.{_≡_};
-ghost use Prim.Native.Nat.{_≤_, _+_, _*_};
-ghost use lib.ListN.{drop, getD};
-ghost use Rattle.model.specs.Step.{step};
-ghost use Rattle.machine.specs.View.{places, tableFor, stateOf};
-ghost use Rattle.machine.specs.CodeRows.{moveOut, Unmoved};
-ghost use Rattle.machine.specs.CodeSteps.{Within};
+ghost use Prim.Native.Nat.{_+_, _<_, _≤_};
+ghost use lib.ListN.{length, replicate};
+ghost use Rattle.lists.specs.If.{if_then_else_};
+ghost use Rattle.model.specs.Step.{cleared};
+ghost use Rattle.machine.specs.CodeMoves.{passed, withValue, withLaid, entered, exited, stepOf, cellsOf, Can};
 
-// Word i of a row: its kind or an operand. For our crates above, which see to what is required here.
-pub fn row_word(t: &[u32], f: Frame, row: u32, i: usize) -> u32
-    requires { ⌜ (f .decls ≤ 32) × (f .nodes ≤ 1024) × (i ≤ 3) ⌝ }
-    ensures { λ r. ⌜ r ≡ getD (now (t .entry)) (4 * (f .decls + f .nodes + row) + i) 0 ⌝ }
+// An array's shape.
+fn shape_of(reduced: bool) -> u8
+    ensures { λ r. ⌜ r ≡ (if reduced then 1 else 0) ⌝ }
 {
-    let line = f.decls + f.nodes + row as usize;
-    word_or_zero(t, 4 * line + i)
+    if reduced {
+        return 1;
+    }
+    0
+}
+
+// Zeroes all cells.
+pub fn zero_all(cells: &mut [u32])
+    ensures { λ _. ⌜ now (cells .exit) ≡ replicate (length (now (cells .entry))) 0 ⌝ }
+{
+    let mut i = 0;
+    while i < cells.len() {
+        cells[i] = 0;
+        i += 1;
+    }
+}
+
+// Zeroes n cells from a place on.
+pub fn zero(cells: &mut [u32], from: u32, n: u32)
+    requires { ⌜ from + n ≤ length (now cells) ⌝ }
+    ensures { λ _. ⌜ now (cells .exit) ≡ cleared from n (now (cells .entry)) ⌝ }
+{
+    let first = from as usize;
+    let end = first + n as usize;
+    zero_all(&mut cells[first..end]);
 }
 
 impl Machine {
-    // One step of a run. For the loops of the runs and of the choice writer, which see to what is required here.
-    pub fn step(
-        mut self,
-        t: &[u32],
-        cells: &mut [u32],
-        list: &[u32],
-        f: Frame,
-        at: usize,
-    ) -> Stepped
-        requires { ⌜ Within (now t) f self (now cells) ⌝ }
-        ensures { λ r. ⌜ moveOut (now (t .entry)) f (r .machine) (now (cells .exit)) (now (list .entry)) (r .outcome) ≡ step (places f) (tableFor (now (t .entry)) f) (stateOf (now (t .entry)) f self (now (cells .entry))) (drop at (now (list .entry))) ⌝ }
-        ensures { λ r. ⌜ Unmoved (r .outcome) (r .machine) self (now (cells .exit)) (now (cells .entry)) ⌝ }
+    // The step of a row that changes nothing in the record: it goes on.
+    pub fn pass(mut self) -> Machine
+        requires { ⌜ self .row < 256 ⌝ }
+        ensures { λ r. ⌜ r ≡ passed self ⌝ }
     {
-        let row = self.row;
-        let kind = row_word(t, f, row, 0);
-        let a = row_word(t, f, row, 1) as usize;
-        let b = row_word(t, f, row, 2) as usize;
-        let c = row_word(t, f, row, 3) as usize;
-        match kind {
-            32 => self.skip(at),
-            33 => self.assign(t, cells, list, f, a, b, at),
-            34 => self.write(t, cells, list, f, a, b, at),
-            35 => self.test(t, cells, list, f, false, a, at),
-            36 => self.test(t, cells, list, f, true, a, at),
-            37 => self.new_array(t, cells, list, f, false, a, b, at),
-            38 => self.open_loop(t, cells, list, f, false, b, c, at),
-            39 => self.repeat_loop(t, list, f, at),
-            40 => self.write_reduced(t, cells, list, f, a, b, at),
-            41 => self.new_array(t, cells, list, f, true, a, b, at),
-            42 => self.open_loop(t, cells, list, f, true, b, c, at),
-            _ => Stepped {
-                machine: self,
-                outcome: Outcome::Stuck,
-            },
+        self.row = self.row + 1;
+        self
+    }
+
+    // ... that gives variable a a number and a base.
+    pub fn put(mut self, a: usize, number: u32, base: u32) -> Machine
+        requires { ⌜ (self .row < 256) × (a < 32) ⌝ }
+        ensures { λ r. ⌜ r ≡ withValue self a number base ⌝ }
+    {
+        let mut numbers = self.numbers;
+        numbers[a] = number;
+        self.numbers = numbers;
+        let mut bases = self.bases;
+        bases[a] = base;
+        self.bases = bases;
+        self.row = self.row + 1;
+        self
+    }
+
+    // ... that lays a new array after the others, for pointer a.
+    pub fn lay(mut self, a: usize, first: u32, len: u32, reduced: bool) -> Machine
+        requires { ⌜ (self .row < 256) × (a < 32) × (self .count < 16) ⌝ }
+        ensures { λ r. ⌜ r ≡ withLaid self a first len reduced ⌝ }
+    {
+        let i = self.count as usize;
+        let mut firsts = self.firsts;
+        firsts[i] = first;
+        self.firsts = firsts;
+        let mut lengths = self.lengths;
+        lengths[i] = len;
+        self.lengths = lengths;
+        let mut shapes = self.shapes;
+        shapes[i] = shape_of(reduced);
+        self.shapes = shapes;
+        self.count = self.count + 1;
+        let mut numbers = self.numbers;
+        numbers[a] = 0;
+        self.numbers = numbers;
+        let mut bases = self.bases;
+        bases[a] = self.count;
+        self.bases = bases;
+        self.row = self.row + 1;
+        self
+    }
+
+    // Loop entry: of the loop of a row, from a start to an end, inside `depth` open loops; its iterator is variable a.
+    pub fn enter(mut self, a: usize, number: u32, row: u32, depth: u32, from: u32, upto: u32) -> Machine
+        requires { ⌜ (a < 32) × (row < 256) × (depth < 8) ⌝ }
+        ensures { λ r. ⌜ r ≡ entered self a number row depth from upto ⌝ }
+    {
+        let i = depth as usize;
+        let mut numbers = self.numbers;
+        numbers[a] = number;
+        self.numbers = numbers;
+        let mut rows = self.loop_rows;
+        rows[i] = row;
+        self.loop_rows = rows;
+        let mut starts = self.starts;
+        starts[i] = from;
+        self.starts = starts;
+        let mut ends = self.ends;
+        ends[i] = upto;
+        self.ends = ends;
+        self.open = depth + 1;
+        self.row = row + 1;
+        self
+    }
+
+    // A loop that is not entered, or not again: on to the row past it.
+    pub fn leave(mut self, a: usize, number: u32, depth: u32, next: u32) -> Machine
+        requires { ⌜ a < 32 ⌝ }
+        ensures { λ r. ⌜ r ≡ exited self a number depth next ⌝ }
+    {
+        let mut numbers = self.numbers;
+        numbers[a] = number;
+        self.numbers = numbers;
+        self.open = depth;
+        self.row = next;
+        self
+    }
+
+    // The step that a row comes to, with the cells lent beside the record.
+    pub fn step(mut self, cells: &mut [u32], change: Move) -> Machine
+        requires { ⌜ (self .row < 256) × Can (self .count) (length (now cells)) change ⌝ }
+        ensures { λ r. ⌜ (r ≡ stepOf self change) × (now (cells .exit) ≡ cellsOf (now (cells .entry)) change) ⌝ }
+    {
+        match change {
+            Move::Goes => self.pass(),
+            Move::Puts(a, number, base) => self.put(a, number, base),
+            Move::Writes(i, v) => {
+                cells[i] = v;
+                self.pass()
+            }
+            Move::Lays(a, first, len, size, reduced) => {
+                zero(cells, first, size);
+                self.lay(a, first, len, reduced)
+            }
+            Move::Enters(a, number, row, depth, from, upto) => self.enter(a, number, row, depth, from, upto),
+            Move::Leaves(a, number, depth, next) => self.leave(a, number, depth, next),
         }
     }
 }

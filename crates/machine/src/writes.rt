@@ -1,368 +1,128 @@
 // Rows 34 and 40: both operands, then the cell of the place, then the write.
-use crate::Machine;
-use crate::answers::Answer;
-use crate::answers::choice_in;
-use crate::arrays::Target;
-use crate::arrays::pointed;
-use crate::evaluators::pointer_at;
-use crate::evaluators::uint_at;
-use crate::frame::Frame;
-use crate::frame::class_in;
-use crate::frame::is_tracked;
-use crate::news::size_for;
-use crate::rows::Outcome;
-use crate::rows::Stepped;
+use crate::Move;
+use crate::Worked;
+use crate::arrays::size_for;
+use crate::values::lost;
+use evaluators::answers::Answer;
+use evaluators::answers::Failure;
+use evaluators::answers::choice_in;
+use evaluators::arrays::Target;
+use evaluators::arrays::pointed;
+use prepared::places::class_in;
+use prepared::places::is_tracked;
 ghost use mathlib.Core.Path.{_≡_};
-ghost use Prim.Native.Nat.{_<_, _≤_};
+ghost use mathlib.Core.Bool.{true};
+ghost use Prim.Native.Nat.{_≤_};
 ghost use lib.ListN.{drop};
-ghost use Rattle.machine.specs.CodeAnswers.{lent, outOf};
-ghost use Rattle.model.specs.Table.Ty.{uint};
-ghost use Rattle.model.specs.Table.Row.{store, reducedStore};
-ghost use Rattle.model.specs.Eval.{ptr};
-ghost use Rattle.model.specs.Step.{made, rowRule};
-ghost use Rattle.machine.specs.View.{places, tableFor, stateOf, arraysOf};
-ghost use Rattle.machine.specs.CodeRows.{moveOut, Unmoved, bothOf, bothOut, endedBoth, outcomeOf, spotOut, Spots, spotEnd, spotIn, spotAt, spotKept, placeOf, aimOf, aimReduced, aimBy, Puts, Unwritten, Writes};
+ghost use Rattle.model.specs.Work.{next};
+ghost use Rattle.model.specs.Eval.{arrayOf};
+ghost use Rattle.model.specs.Step.{made};
+ghost use Rattle.prepared.specs.Own.{placesOf};
+ghost use Rattle.evaluators.specs.CodeAnswers.{arraysOf};
+ghost use Rattle.evaluators.specs.CodeLeaves.{targetOut};
+ghost use Rattle.machine.specs.CodeMoves.{storeIn, Stores};
+ghost use Rattle.machine.specs.CodeRows.{cellGets, placeGets, trackedGets, targetGets};
 
-// A pointer, by its array and place, and a number, with the place of the next choice; or why there are none.
-pub enum Operands {
-    Both(u32, u32, u32, usize),
-    Fails(usize),
-    BadChoice,
-    NoChoice,
-    Stuck,
-}
-
-fn ended_both(x: Answer) -> Operands
-    ensures { λ r. ⌜ r ≡ endedBoth x ⌝ }
-{
-    match x {
-        Answer::Fails(at) => Operands::Fails(at),
-        Answer::BadChoice => Operands::BadChoice,
-        Answer::NoChoice => Operands::NoChoice,
-        _ => Operands::Stuck,
-    }
-}
-
-fn outcome_of(x: Operands) -> Outcome
-    ensures { λ r. ⌜ r ≡ outcomeOf x ⌝ }
-{
-    match x {
-        Operands::Both(_, _, _, _) => Outcome::Stuck,
-        Operands::Fails(at) => Outcome::Fails(at),
-        Operands::BadChoice => Outcome::BadChoice,
-        Operands::NoChoice => Outcome::NoChoice,
-        Operands::Stuck => Outcome::Stuck,
-    }
-}
-
-// The two operands of a row, nodes a and b. The columns are named as in evaluators.
-fn pointer_and_uint<'a>(
-    t: &[u32],
-    cells: &[u32],
-    list: &[u32],
-    ns: &'a [u32; 32],
-    bs: &'a [u32; 32],
-    fs: &'a [u32; 16],
-    ls: &'a [u32; 16],
-    hs: &'a [u8; 16],
-    f: Frame,
-    count: u32,
-    a: usize,
-    b: usize,
-    at: usize,
-) -> Operands
-    requires { ⌜ (f .decls ≤ 32) × (f .nodes ≤ 1024) × (count ≤ 16) ⌝ }
-    ensures { λ r. ⌜ bothOut (now (list .entry)) r ≡ bothOf (lent (now (t .entry)) f count (now (ns .entry)) (now (bs .entry)) (now (fs .entry)) (now (ls .entry)) (now (hs .entry)) (now (cells .entry))) (f .nodes) a b (drop at (now (list .entry))) ⌝ }
-{
-    let end = f.nodes;
-    let x = pointer_at(t, cells, list, ns, bs, fs, ls, hs, f, count, a, end, at);
-    let Answer::Pointer(to, place, next) = x else {
-        return ended_both(x);
-    };
-    let y = uint_at(t, cells, list, ns, bs, fs, ls, hs, f, count, b, end, next);
-    let Answer::Uint(v, last) = y else {
-        return ended_both(y);
-    };
-    Operands::Both(to, place, v, last)
-}
-
-// The cell to write, or that the write is dropped, with the place of the next choice; or why there is neither.
-pub enum Spot {
-    At(usize, usize),
-    Dropped(usize),
-    Fails(usize),
-    BadChoice,
-    NoChoice,
-    Stuck,
-}
-
-fn spot_end(x: Answer) -> Spot
-    ensures { λ r. ⌜ r ≡ spotEnd x ⌝ }
-{
-    match x {
-        Answer::Fails(at) => Spot::Fails(at),
-        Answer::BadChoice => Spot::BadChoice,
-        Answer::NoChoice => Spot::NoChoice,
-        _ => Spot::Stuck,
-    }
-}
-
-// Cell i of an array of so many cells, laid from start on.
-fn spot_in(start: u32, size: u32, i: u32, at: usize) -> Spot
-    ensures { λ r. ⌜ Spots at r (spotIn start size i) ⌝ }
+// Cell i of an array of so many cells, laid from start on, gets v: it must be one of so many lent.
+fn cell_gets(room: usize, start: u32, size: u32, i: u32, v: u32, at: usize) -> Worked
+    ensures { λ r. ⌜ r ≡ cellGets room start size i v at ⌝ }
 {
     if size <= i {
-        return Spot::Stuck;
+        return Worked::Not(Failure::Stuck, at);
     }
-    Spot::At(start as usize + i as usize, at)
+    let p = start as usize + i as usize;
+    if p < room {
+        return Worked::Moves(Move::Writes(p, v), at);
+    }
+    Worked::Not(Failure::Stuck, at)
 }
 
-// Place v, for 34.
-fn spot_at(f: Frame, start: u32, len: u32, reduced: bool, v: u32, at: usize) -> Spot
-    ensures { λ r. ⌜ Spots at r (spotAt (places f) v (made start len reduced)) ⌝ }
+// Place p of an array gets v, by 34.
+fn place_gets(own: &[u32; 5256], room: usize, start: u32, len: u32, reduced: bool, p: u32, v: u32, at: usize) -> Worked
+    ensures { λ r. ⌜ r ≡ placeGets (now (own .entry)) room start len reduced p v at ⌝ }
 {
-    if len <= v {
-        return Spot::Fails(at);
+    if len <= p {
+        return Worked::Not(Failure::Fails, at);
     }
-    let size = size_for(f, len, reduced);
-    spot_in(start, size, v, at)
+    cell_gets(room, start, size_for(own, len, reduced), p, v, at)
 }
 
-// Place v, for 40: a tracked place of a reduced array has a cell, any other is dropped.
-fn spot_kept(f: Frame, start: u32, len: u32, reduced: bool, v: u32, at: usize) -> Spot
-    ensures { λ r. ⌜ Spots at r (spotKept (places f) (made start len reduced) v) ⌝ }
+// ... by 40, of a reduced array: a tracked place is written, any other write is dropped.
+fn tracked_gets(own: &[u32; 5256], room: usize, start: u32, len: u32, p: u32, v: u32, at: usize) -> Worked
+    ensures { λ r. ⌜ r ≡ trackedGets (now (own .entry)) room start len p v at ⌝ }
 {
-    if len <= v {
-        return Spot::Fails(at);
+    if len <= p {
+        return Worked::Not(Failure::Fails, at);
     }
-    if reduced {
-        if is_tracked(f, v) {
-            return spot_in(start, class_in(f, len), class_in(f, v), at);
-        }
-        return Spot::Dropped(at);
+    if is_tracked(own, p) {
+        return cell_gets(room, start, class_in(own, len), class_in(own, p), v, at);
     }
-    spot_in(start, len, v, at)
+    Worked::Moves(Move::Goes, at)
 }
 
-// The place that 40 writes to: one chosen in the class of the pointer's place, or that place in a plain array.
-fn place_of(list: &[u32], f: Frame, reduced: bool, place: u32, at: usize) -> Answer
-    ensures { λ r. ⌜ outOf uint (now (list .entry)) r ≡ placeOf (places f) reduced place (drop at (now (list .entry))) ⌝ }
+// 40 on a reduced array: a place is chosen in the class of the pointer's.
+fn chosen_gets(own: &[u32; 5256], list: &[u32], room: usize, start: u32, len: u32, p: u32, v: u32, at: usize) -> Worked
+    ensures { λ r. ⌜ Stores (now (own .entry)) (now (list .entry)) room r
+        (λ s. storeIn true (placesOf (now (own .entry))) s p v (made start len true) (drop at (now (list .entry)))) ⌝ }
 {
-    if reduced {
-        return choice_in(list, f, class_in(f, place), at);
-    }
-    Answer::Uint(place, at)
+    let x = choice_in(own, list, class_in(own, p), at);
+    let Answer::Uint(q, next) = x else {
+        return lost(x);
+    };
+    tracked_gets(own, room, start, len, q, v, next)
 }
 
-// Where 34 writes.
-fn aimed<'a>(
-    firsts: &'a [u32; 16],
-    lengths: &'a [u32; 16],
-    shapes: &'a [u8; 16],
-    f: Frame,
-    count: u32,
-    to: u32,
-    place: u32,
-    at: usize,
-) -> Spot
-    requires { ⌜ count ≤ 16 ⌝ }
-    ensures { λ r. ⌜ Spots at r (aimOf (places f) (arraysOf count (now (firsts .entry)) (now (lengths .entry)) (now (shapes .entry))) (ptr to place)) ⌝ }
+// 34 with both operands worked out: place p of the array that the pointer points to gets v.
+pub fn target_gets(own: &[u32; 5256], room: usize, x: Target, p: u32, v: u32, at: usize) -> Worked
+    ensures { λ r. ⌜ r ≡ targetGets (now (own .entry)) room x p v at ⌝ }
 {
-    let x = pointed(firsts, lengths, shapes, count, to);
     match x {
-        Target::Array(start, len, reduced) => spot_at(f, start, len, reduced, place, at),
-        Target::Missing => Spot::Fails(at),
-        Target::Unknown => Spot::Stuck,
+        Target::Array(start, len, reduced) => place_gets(own, room, start, len, reduced, p, v, at),
+        Target::Missing => Worked::Not(Failure::Fails, at),
+        Target::Unknown => Worked::Not(Failure::Stuck, at),
     }
 }
 
-// Where 40 writes.
-fn aimed_reduced<'a>(
-    list: &[u32],
-    firsts: &'a [u32; 16],
-    lengths: &'a [u32; 16],
-    shapes: &'a [u8; 16],
-    f: Frame,
-    count: u32,
-    to: u32,
-    place: u32,
-    at: usize,
-) -> Spot
-    requires { ⌜ count ≤ 16 ⌝ }
-    ensures { λ r. ⌜ spotOut (now (list .entry)) r ≡ aimReduced (places f) (arraysOf count (now (firsts .entry)) (now (lengths .entry)) (now (shapes .entry))) (ptr to place) (drop at (now (list .entry))) ⌝ }
+// ... 40.
+fn reduced_gets(own: &[u32; 5256], list: &[u32], room: usize, x: Target, p: u32, v: u32, at: usize) -> Worked
+    ensures { λ r. ⌜ Stores (now (own .entry)) (now (list .entry)) room r
+        (λ s. next (targetOut x (drop at (now (list .entry)))) (storeIn true (placesOf (now (own .entry))) s p v)) ⌝ }
 {
-    let x = pointed(firsts, lengths, shapes, count, to);
     match x {
         Target::Array(start, len, reduced) => {
-            let y = place_of(list, f, reduced, place, at);
-            let Answer::Uint(v, next) = y else {
-                return spot_end(y);
-            };
-            spot_kept(f, start, len, reduced, v, next)
+            if reduced {
+                return chosen_gets(own, list, room, start, len, p, v, at);
+            }
+            place_gets(own, room, start, len, false, p, v, at)
         }
-        Target::Missing => Spot::Fails(at),
-        Target::Unknown => Spot::Stuck,
+        Target::Missing => Worked::Not(Failure::Fails, at),
+        Target::Unknown => Worked::Not(Failure::Stuck, at),
     }
 }
 
-// Where 40 writes, or 34.
-fn aimed_by<'a>(
+// 34, or 40, with both operands worked out.
+pub(crate) fn written<'a>(
     tracking: bool,
+    own: &[u32; 5256],
     list: &[u32],
+    room: usize,
     fs: &'a [u32; 16],
     ls: &'a [u32; 16],
     hs: &'a [u8; 16],
-    f: Frame,
     count: u32,
     to: u32,
     place: u32,
+    v: u32,
     at: usize,
-) -> Spot
+) -> Worked
     requires { ⌜ count ≤ 16 ⌝ }
-    ensures { λ r. ⌜ spotOut (now (list .entry)) r ≡ aimBy tracking (places f) (arraysOf count (now (fs .entry)) (now (ls .entry)) (now (hs .entry))) (ptr to place) (drop at (now (list .entry))) ⌝ }
+    ensures { λ r. ⌜ Stores (now (own .entry)) (now (list .entry)) room r
+        (λ s. next (arrayOf (arraysOf count (now (fs .entry)) (now (ls .entry)) (now (hs .entry))) to (drop at (now (list .entry))))
+        (storeIn tracking (placesOf (now (own .entry))) s place v)) ⌝ }
 {
+    let x = pointed(fs, ls, hs, count, to);
     if tracking {
-        return aimed_reduced(list, fs, ls, hs, f, count, to, place, at);
+        return reduced_gets(own, list, room, x, place, v, at);
     }
-    aimed(fs, ls, hs, f, count, to, place, at)
-}
-
-// The write, to a cell that must be one of those lent.
-fn put_cell(cells: &mut [u32], z: Spot, v: u32) -> Outcome
-    ensures { λ r. ⌜ Puts z v r (now (cells .entry)) (now (cells .exit)) ⌝ }
-    ensures { λ r. ⌜ Unwritten r (now (cells .exit)) (now (cells .entry)) ⌝ }
-{
-    match z {
-        Spot::At(i, at) => {
-            if i < cells.len() {
-                cells[i] = v;
-                return Outcome::Goes(at);
-            }
-            Outcome::Stuck
-        }
-        Spot::Dropped(at) => Outcome::Goes(at),
-        Spot::Fails(at) => Outcome::Fails(at),
-        Spot::BadChoice => Outcome::BadChoice,
-        Spot::NoChoice => Outcome::NoChoice,
-        Spot::Stuck => Outcome::Stuck,
-    }
-}
-
-// 40, or 34: both operands, and the write that they say.
-fn written<'a>(
-    tracking: bool,
-    t: &[u32],
-    cells: &mut [u32],
-    list: &[u32],
-    ns: &'a [u32; 32],
-    bs: &'a [u32; 32],
-    fs: &'a [u32; 16],
-    ls: &'a [u32; 16],
-    hs: &'a [u8; 16],
-    f: Frame,
-    count: u32,
-    a: usize,
-    b: usize,
-    at: usize,
-) -> Outcome
-    requires { ⌜ (f .decls ≤ 32) × (f .nodes ≤ 1024) × (count ≤ 16) ⌝ }
-    ensures { λ r. ⌜ Writes tracking (lent (now (t .entry)) f count (now (ns .entry)) (now (bs .entry)) (now (fs .entry)) (now (ls .entry)) (now (hs .entry)) (now (cells .entry))) (f .nodes) a b (drop at (now (list .entry))) (now (list .entry)) r (now (cells .exit)) ⌝ }
-    ensures { λ r. ⌜ Unwritten r (now (cells .exit)) (now (cells .entry)) ⌝ }
-{
-    let x = pointer_and_uint(t, cells, list, ns, bs, fs, ls, hs, f, count, a, b, at);
-    let Operands::Both(to, place, v, next) = x else {
-        return outcome_of(x);
-    };
-    let z = aimed_by(tracking, list, fs, ls, hs, f, count, to, place, next);
-    put_cell(cells, z, v)
-}
-
-impl Machine {
-    // Row 34.
-    pub(crate) fn write(
-        mut self,
-        t: &[u32],
-        cells: &mut [u32],
-        list: &[u32],
-        f: Frame,
-        a: usize,
-        b: usize,
-        at: usize,
-    ) -> Stepped
-        requires { ⌜ (f .decls ≤ 32) × (f .nodes ≤ 1024) × (self .count ≤ 16) × (self .row < 256) ⌝ }
-        ensures { λ r. ⌜ moveOut (now (t .entry)) f (r .machine) (now (cells .exit)) (now (list .entry)) (r .outcome) ≡ rowRule (places f) (tableFor (now (t .entry)) f) (stateOf (now (t .entry)) f self (now (cells .entry))) (self .row) store a b 0 (drop at (now (list .entry))) ⌝ }
-        ensures { λ r. ⌜ Unmoved (r .outcome) (r .machine) self (now (cells .exit)) (now (cells .entry)) ⌝ }
-    {
-        let o = written(
-            false,
-            t,
-            cells,
-            list,
-            &self.numbers,
-            &self.bases,
-            &self.firsts,
-            &self.lengths,
-            &self.shapes,
-            f,
-            self.count,
-            a,
-            b,
-            at,
-        );
-        let Outcome::Goes(next) = o else {
-            return Stepped {
-                machine: self,
-                outcome: o,
-            };
-        };
-        self.row = self.row + 1;
-        Stepped {
-            machine: self,
-            outcome: Outcome::Goes(next),
-        }
-    }
-
-    // Row 40.
-    pub(crate) fn write_reduced(
-        mut self,
-        t: &[u32],
-        cells: &mut [u32],
-        list: &[u32],
-        f: Frame,
-        a: usize,
-        b: usize,
-        at: usize,
-    ) -> Stepped
-        requires { ⌜ (f .decls ≤ 32) × (f .nodes ≤ 1024) × (self .count ≤ 16) × (self .row < 256) ⌝ }
-        ensures { λ r. ⌜ moveOut (now (t .entry)) f (r .machine) (now (cells .exit)) (now (list .entry)) (r .outcome) ≡ rowRule (places f) (tableFor (now (t .entry)) f) (stateOf (now (t .entry)) f self (now (cells .entry))) (self .row) reducedStore a b 0 (drop at (now (list .entry))) ⌝ }
-        ensures { λ r. ⌜ Unmoved (r .outcome) (r .machine) self (now (cells .exit)) (now (cells .entry)) ⌝ }
-    {
-        let o = written(
-            true,
-            t,
-            cells,
-            list,
-            &self.numbers,
-            &self.bases,
-            &self.firsts,
-            &self.lengths,
-            &self.shapes,
-            f,
-            self.count,
-            a,
-            b,
-            at,
-        );
-        let Outcome::Goes(next) = o else {
-            return Stepped {
-                machine: self,
-                outcome: o,
-            };
-        };
-        self.row = self.row + 1;
-        Stepped {
-            machine: self,
-            outcome: Outcome::Goes(next),
-        }
-    }
+    target_gets(own, room, x, place, v, at)
 }

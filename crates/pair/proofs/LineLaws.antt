@@ -7,7 +7,8 @@ use mathlib.Core.Bool.{true, false}
 use mathlib.Core.List.{List, []}
 use lib.ListN.{length}
 use borrow.Author.Tests.{eq-eqb}
-use Rattle.runs.specs.Ends.{endOf, reportOf}
+use Rattle.machine.specs.View.{endOf}
+use Rattle.runs.specs.Ends.{reportOf}
 use Rattle.table.specs.declared.Verdict.{Verdict}
 use Rattle.table.specs.declared.Verdict.the-variants.{Passes, Refused}
 use Rattle.table.specs.Checks.{tableCheck}
@@ -19,7 +20,7 @@ use Rattle.model.specs.Step.{Report}
 use Rattle.model.specs.Reduce.{reduce}
 use Rattle.model.specs.Demand3.{choicesUsed, plainRun, reducedRun}
 use Rattle.reduction.specs.Reduction.{placesCheck, reduceAnswer, reduceBuffer}
-use Rattle.machine.specs.declared.frame.Frame.{Frame}
+use Rattle.prepared.specs.declared.Frame.{Frame}
 use Rattle.runs.specs.declared.Answered.{Answered}
 use Rattle.runs.specs.Checks.{frameOf, runChecks}
 use Rattle.runs.specs.Answers.{saidBy, saidOf, ranSaid, freshSaid}

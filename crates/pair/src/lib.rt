@@ -4,7 +4,7 @@ mod lines;
 mod tables;
 
 use inputs::word_at;
-use runs::End;
+use machine::End;
 use table::Verdict;
 use tables::run_file;
 ghost use mathlib.Core.Path.{_≡_};

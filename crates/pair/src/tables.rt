@@ -1,4 +1,5 @@
 // The two runs of a file's table.
+use crate::Line;
 use crate::Paired;
 use crate::lines::TABLE_WORDS;
 use crate::lines::pair_line;
@@ -7,16 +8,40 @@ use crate::refused;
 use choices::write_choices;
 use file::Read;
 use file::read_file;
+use machine::End;
 use machine::Machine;
+use runs::Ran;
 use table::Verdict;
 ghost use mathlib.Core.Path.{_≡_};
 ghost use Prim.Native.Nat.{_≤_};
 ghost use lib.ListN.{length};
 ghost use Rattle.model.specs.Class.{pair};
+ghost use Rattle.table.specs.declared.Verdict.the-variants.{Passes};
+ghost use Rattle.table.specs.Checks.{tableCheck};
+ghost use Rattle.model.specs.State.MachineKind.{plain};
 ghost use Rattle.pair.specs.Pairs.{saidOf, tableSaid, fileSaid};
+ghost use Rattle.pair.specs.CodeLines.{PlainOf};
 
 // The room of the choice list.
 const ROOM: usize = 8192;
+
+// The plain run's line: the writer's own run is the plain one, unless its list was full.
+fn plain_of(t: &[u32], ran: Ran, limit: u32) -> Line
+    requires { ⌜ tableCheck plain (now t) ≡ Passes ⌝ }
+    ensures { λ r. ⌜ PlainOf (now (t .entry)) limit ran r ⌝ }
+{
+    let end = ran.end;
+    let machine = ran.machine;
+    let End::ListFull = end else {
+        return Line {
+            end,
+            row: machine.row,
+            steps: ran.steps,
+            used: 0,
+        };
+    };
+    plain_line(t, limit)
+}
 
 // Both runs of a table: the writer makes the checks, and the reduced run has the numbers that it counted.
 fn run_table(t: &[u32], c1: u32, c2: u32, limit: u32) -> Paired
@@ -30,9 +55,9 @@ fn run_table(t: &[u32], c1: u32, c2: u32, limit: u32) -> Paired
     let Verdict::Passes = v else {
         return refused(v);
     };
-    let wrote = a.wrote;
-    let count = wrote.count as usize;
-    let plain = plain_line(t, limit);
+    let ran = a.ran;
+    let count = ran.used as usize;
+    let plain = plain_of(t, ran, limit);
     let pair = pair_line(t, c1, c2, &list[..count], limit);
     Paired {
         verdict: Verdict::Passes,

@@ -98,7 +98,7 @@ module _ (t : List ℕ) (f : Frame) (own : List ℕ) (S : InSorts (tableFor t f)
       go true = refl
       go false = refl
 
-  same-form : (a : ℕ) → a < decls → ownForm own a ≡ formIn t f a
+  pub same-form : (a : ℕ) → a < decls → ownForm own a ≡ formIn t f a
   unfolding ownForm
   same-form a h = ap formOfNumber (O .form a h) ∙ form-back (formIn t f a)
 

@@ -1,7 +1,7 @@
 // What the bench programs print of a pair of runs.
+use machine::End;
 use pair::Line;
 use pair::Paired;
-use runs::End;
 use table::Verdict;
 
 fn print_part(name: &[u8], n: u64) {
@@ -20,6 +20,7 @@ fn print_end(e: End) -> bool {
         End::OutOfSteps => io::write_all(1, b"steps"),
         End::ChoiceNotAllowed => io::write_all(1, b"badchoice"),
         End::NoChoiceLeft => io::write_all(1, b"nochoice"),
+        End::ListFull => io::write_all(1, b"full"),
     }
 }
 

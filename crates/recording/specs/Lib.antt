@@ -1,4 +1,4 @@
--- The choices that a plain step hands to the reduced one, as a lent buffer has them; what is recorded with a node's value, and for a row.
+-- The choices that a plain step hands to the reduced one, as a lent buffer has them, and what is recorded with a node's value.
 pub mod CodePushes
 pub mod CodeRecords
-pub mod CodeRows
+pub mod CodeMoves

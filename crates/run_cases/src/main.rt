@@ -1,8 +1,8 @@
 // Runs cases of tables from standard input, each after its length: a fresh run of a machine and the runs that continue it. It prints a
 // line for each run, with check numbers of the record and of the cells. make_cases.py says how a case is laid out.
+use machine::End;
 use machine::Machine;
 use runs::Answered;
-use runs::End;
 use runs::Ran;
 use table::Verdict;
 ghost use Prim.Native.Nat.{_<_};
@@ -161,6 +161,7 @@ fn print_end(e: End) -> bool {
         End::OutOfSteps => io::write_all(1, b"steps"),
         End::ChoiceNotAllowed => io::write_all(1, b"badchoice"),
         End::NoChoiceLeft => io::write_all(1, b"nochoice"),
+        End::ListFull => io::write_all(1, b"full"),
     }
 }
 
@@ -363,25 +364,9 @@ fn printed_run(
     kept_of(a, m)
 }
 
-fn blank() -> Machine {
-    Machine {
-        row: 0,
-        open: 0,
-        loop_rows: [0; 8],
-        starts: [0; 8],
-        ends: [0; 8],
-        numbers: [0; 32],
-        bases: [0; 32],
-        count: 0,
-        firsts: [0; 16],
-        lengths: [0; 16],
-        shapes: [0; 16],
-    }
-}
-
 // The runs of a case, until its words end; none uses more choices than are left.
 fn all_runs(q: Asked, t: &[u32], cells: &mut [u32], list: &[u32], runs: &[u32]) {
-    let mut m = blank();
+    let mut m = Machine::blank();
     let mut left = &list[..];
     let mut rest = &runs[..];
     let mut first = true;

@@ -9,9 +9,9 @@ use mathlib.Core.List.{List, [], _∷_}
 use lib.ListN.{length, getD, length-map}
 use borrow.Author.Tests.{lt-leb}
 use Rattle.machine.specs.declared.Machine.{Machine}
-use Rattle.machine.specs.declared.frame.Frame.{Frame}
-use Rattle.machine.specs.declared.variables.Sort.{Sort}
-use Rattle.machine.specs.declared.variables.Sort.the-variants as Sort
+use Rattle.prepared.specs.declared.Frame.{Frame}
+use Rattle.prepared.specs.declared.Form.{Form}
+use Rattle.prepared.specs.declared.Form.the-variants as Form
 use Rattle.lists.specs.If.{if_then_else_}
 use Rattle.lists.proofs.TabLaws.{at-tab, length-tab}
 use Rattle.model.specs.Table.{Nest, Table, Ty, count, nestAt, nested, openAt, typeAt}
@@ -21,7 +21,9 @@ use Rattle.model.specs.State.{Loop, MachineKind, classed, formOf}
 use Rattle.model.specs.State.Value.{Truth, Uint, Class, Pointer}
 use Rattle.model.specs.Accepted.{CanHave, Holds, Regular}
 use Rattle.model.proofs.ReducedAccepted.{R}
-use Rattle.machine.specs.View.{arrayIn, arraysOf, boolOr, bySort, kindOf, loopIn, loopsOf, sortFor, sortIn, stateOf, tableFor, varsOf}
+use Rattle.prepared.specs.View.{boolOr, byForm, kindOf, formFor, formIn, tableFor, varsOf, varsBy}
+use Rattle.evaluators.specs.CodeAnswers.{arrayIn, arraysOf}
+use Rattle.machine.specs.View.{loopIn, loopsOf, stateOf}
 
 -- ---- at most eight loops are open
 
@@ -42,11 +44,11 @@ module _ (t : Table) (few : (r : ℕ) → r < t .rows → nestAt t r ≡ opens �
 
 -- ---- of a record
 
-abbrev sortCode : Sort → ℕ
-sortCode Sort.Bool = 1
-sortCode Sort.Uint = 2
-sortCode Sort.Class = 4
-sortCode Sort.Pointer = 3
+abbrev formCode : Form → ℕ
+formCode Form.Bool = 1
+formCode Form.Uint = 2
+formCode Form.Class = 4
+formCode Form.Pointer = 3
 
 bool-small : (x : ℕ) (b : Bool) → boolOr x ≡ Truth b → x ≤ 1
 bool-small x b e = elim (decLe x 1) [ yes h ↦ h | no h ↦ absurd (omega (numbers, ap formOf (rw (lt-leb x 1 (omega numbers)) at e))) ]
@@ -60,11 +62,11 @@ module _ (t : List ℕ) (f : Frame) (m : Machine) (cells : List ℕ) (ps : List 
       ∙ ap length (C .loops)
 
   -- so at most eight, and fewer where a loop opens
-  module _ (few : (r : ℕ) → r < f .rows → nestAt (tableFor t f) r ≡ opens → length (openAt (tableFor t f) r) < 8) where
+  module _ (few : (r : ℕ) → r < f .counts .rows → nestAt (tableFor t f) r ≡ opens → length (openAt (tableFor t f) r) < 8) where
     pub loops-most : m .«open» ≤ 8
     loops-most = omega (numbers, open-is, open-most (tableFor t f) few (m .row) (C .row))
 
-    pub loops-room : m .row < f .rows → nestAt (tableFor t f) (m .row) ≡ opens → m .«open» < 8
+    pub loops-room : m .row < f .counts .rows → nestAt (tableFor t f) (m .row) ≡ opens → m .«open» < 8
     loops-room h e = omega (numbers, open-is, few (m .row) h e)
 
   pub arrays-most : Regular ps k (tableFor t f) (stateOf t f m cells) → m .count ≤ 16
@@ -72,24 +74,25 @@ module _ (t : List ℕ) (f : Frame) (m : Machine) (cells : List ℕ) (ps : List 
   arrays-most R = omega (numbers, R .few, length-tab (m .count) (arrayIn (m .firsts) (m .lengths) (m .shapes)))
 
   -- a bool's slot holds 0 or 1
-  var-is : (i : ℕ) → i < f .decls → getD (varsOf t f (m .numbers) (m .bases)) i (Uint 0) ≡ bySort (sortIn t f i) (getD (m .numbers) i 0) (getD (m .bases) i 0)
-  unfolding varsOf
-  var-is i h = at-tab (f .decls) (λ i. bySort (sortIn t f i) (getD (m .numbers) i 0) (getD (m .bases) i 0)) (Uint 0) i h
+  var-is : (i : ℕ) → i < f .counts .decls → getD (varsOf t f (m .numbers) (m .bases)) i (Uint 0) ≡ byForm (formIn t f i) (getD (m .numbers) i 0) (getD (m
+      .bases) i 0)
+  unfolding varsBy
+  var-is i h = at-tab (f .counts .decls) (λ i. byForm (formIn t f i) (getD (m .numbers) i 0) (getD (m .bases) i 0)) (Uint 0) i h
 
-  pub bools-small : k ≡ kindOf f → (i : ℕ) → i < f .decls → sortIn t f i ≡ Sort.Bool → getD (m .numbers) i 0 ≤ 1
-  unfolding sortIn
+  pub bools-small : k ≡ kindOf f → (i : ℕ) → i < f .counts .decls → formIn t f i ≡ Form.Bool → getD (m .numbers) i 0 ≤ 1
+  unfolding formIn
   bools-small q i h e =
       go (classed (kindOf f) (tableFor t f) i) refl (typeAt (tableFor t f) i) refl e
       (subst (λ (k : MachineKind). Holds (classed k (tableFor t f) i) (length (stateOf t f m cells .arrays)) (typeAt (tableFor t f) i)
           (getD (varsOf t f (m .numbers) (m .bases)) i (Uint 0))) q (C .variable i h))
     where
-      go : (b : Bool) → classed (kindOf f) (tableFor t f) i ≡ b → (w : Ty) → typeAt (tableFor t f) i ≡ w → (if b then Sort.Class else sortFor w) ≡ Sort.Bool
+      go : (b : Bool) → classed (kindOf f) (tableFor t f) i ≡ b → (w : Ty) → typeAt (tableFor t f) i ≡ w → (if b then Form.Class else formFor w) ≡ Form.Bool
           → Holds (classed (kindOf f) (tableFor t f) i) (length (stateOf t f m cells .arrays)) (typeAt (tableFor t f) i)
               (getD (varsOf t f (m .numbers) (m .bases)) i (Uint 0)) → getD (m .numbers) i 0 ≤ 1
-      go true u w v z g = absurd (omega (numbers, ap sortCode z))
+      go true u w v z g = absurd (omega (numbers, ap formCode z))
       go false u bool v z g =
           let g′ : Holds false (length (stateOf t f m cells .arrays)) bool (getD (varsOf t f (m .numbers) (m .bases)) i (Uint 0)) = rw (u, v) at g in
           bool-small (getD (m .numbers) i 0) (g′ .0)
-              (ap (λ (x : Sort). bySort x (getD (m .numbers) i 0) (getD (m .bases) i 0)) (sym e) ∙ sym (var-is i h) ∙ g′ .1)
-      go false u uint v z g = absurd (omega (numbers, ap sortCode z))
-      go false u pointer v z g = absurd (omega (numbers, ap sortCode z))
+              (ap (λ (x : Form). byForm x (getD (m .numbers) i 0) (getD (m .bases) i 0)) (sym e) ∙ sym (var-is i h) ∙ g′ .1)
+      go false u uint v z g = absurd (omega (numbers, ap formCode z))
+      go false u pointer v z g = absurd (omega (numbers, ap formCode z))

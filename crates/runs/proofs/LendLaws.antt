@@ -25,9 +25,12 @@ use Rattle.model.specs.Accepted.{Accepted, CanHave, Regular}
 use Rattle.model.proofs.Demand3Proof.{fresh-can}
 use Rattle.model.proofs.Kept.{fresh-regular}
 use Rattle.machine.specs.declared.Machine.{Machine}
-use Rattle.machine.specs.declared.frame.Frame.{Frame}
-use Rattle.machine.specs.View.{places, kindOf, tableFor, stateOf, varsOf, loopsOf, arraysOf}
-use Rattle.machine.specs.CodeFresh.{freshVars}
+use Rattle.prepared.specs.declared.Frame.{Frame}
+use Rattle.prepared.specs.View.{places, kindOf, tableFor, varsOf}
+use Rattle.evaluators.specs.CodeAnswers.{arraysOf}
+use Rattle.machine.specs.View.{stateOf, loopsOf}
+use Rattle.machine.specs.CodeFresh.{freshVars, freshRecord}
+use Rattle.machine.proofs.FreshLaws.{fresh-vars}
 use Rattle.runs.specs.Record.{recordFits}
 use Rattle.runs.specs.declared.Ran.{Ran}
 use Rattle.runs.specs.CodeSteps.{Ready, Reports, Lends}
@@ -69,7 +72,7 @@ module _ (t : List ℕ) (f : Frame) (cells₀ : List ℕ) (S : Lends t f cells�
   pub laid : InSorts (tableFor t f)
   laid = subst InSorts (sym (S .framed)) whole-laid
 
-  pub few-decls : f .decls ≤ 32
+  pub few-decls : f .counts .decls ≤ 32
   few-decls = laid .fewDecls
 
   ready : (m : Machine) (cells : List ℕ) → length cells ≡ length cells₀ → CanHave (places f) (kindOf f) (tableFor t f) (stateOf t f m cells)
@@ -84,11 +87,13 @@ module _ (t : List ℕ) (f : Frame) (cells₀ : List ℕ) (S : Lends t f cells�
   }
 
   -- a fresh record, in cells that are all zero
-  module _ (m : Machine) (cells : List ℕ) (row : m .row ≡ 0) (none : m .open ≡ 0) (count : m .count ≡ 0)
-      (vars : varsOf t f (m .numbers) (m .bases) ≡ freshVars t f) (zeros : cells ≡ replicate (length cells₀) 0) where
+  module _ (m : Machine) (cells : List ℕ) (begun : m ≡ freshRecord t f) (zeros : cells ≡ replicate (length cells₀) 0) where
+    begins : stateOf t f (freshRecord t f) (replicate (cellCount (kindOf f)) 0) ≡ fresh (places f) (kindOf f) (tableFor t f)
+    unfolding loopsOf arraysOf fresh freshVars tab freshRecord
+    begins = rw (fresh-vars t f few-decls)
+
     pub state-fresh : stateOf t f m cells ≡ fresh (places f) (kindOf f) (tableFor t f)
-    unfolding loopsOf arraysOf fresh freshVars tab
-    state-fresh = rw (row, none, count, vars, zeros, checked .sized)
+    state-fresh = rw (begun, zeros, checked .sized) begins
 
     pub ready-fresh : Ready t f m cells
     ready-fresh =

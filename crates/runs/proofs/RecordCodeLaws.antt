@@ -26,18 +26,20 @@ use Rattle.model.specs.State.MachineKind.{reduced}
 use Rattle.model.specs.State.Value.{Truth, Uint}
 use Rattle.model.specs.Eval.{sizeOf, cellsLaid}
 use Rattle.machine.specs.declared.Machine.{Machine}
-use Rattle.machine.specs.declared.frame.Frame.{Frame}
-use Rattle.machine.specs.declared.variables.Sort.{Sort}
-use Rattle.machine.specs.declared.variables.Sort.the-variants as Sort
-use Rattle.machine.specs.View.{places, kindOf, tableFor, stateOf, sortFor, sortIn, bySort, boolOr, varsOf, arrayIn, arraysOf, loopsOf}
-use Rattle.machine.specs.CodeNews.{sizeAt}
-use Rattle.machine.proofs.ViewLaws.{count-arrays}
+use Rattle.prepared.specs.declared.Frame.{Frame}
+use Rattle.prepared.specs.declared.Form.{Form}
+use Rattle.prepared.specs.declared.Form.the-variants as Form
+use Rattle.prepared.specs.View.{places, kindOf, tableFor, formFor, formIn, byForm, boolOr, varsOf, varsBy}
+use Rattle.evaluators.specs.CodeAnswers.{arrayIn, arraysOf}
+use Rattle.machine.specs.View.{stateOf, loopsOf}
+use Rattle.machine.specs.CodeRows.{sizeAt}
+use Rattle.evaluators.proofs.ViewLaws.{count-arrays}
 use Rattle.machine.proofs.LoopLaws.{loops-split}
 use Rattle.runs.specs.declared.loops.Walk.{Walk}
 use Rattle.runs.specs.declared.loops.Walk.the-variants.{On, Differs}
 use Rattle.runs.specs.Record.{sameNumbers, loopsAround, startsWithin, holdsClass, ofTheType, variableFits, variablesFit, inSequence, kindsFit}
 use Rattle.runs.specs.Record.{arraysFit, recordFits}
-use Rattle.runs.specs.CodeRecord.{rowsOf, nestedBy, metBy, walkOut, closedIn, Walks, fitsBySort, arrayFits}
+use Rattle.runs.specs.CodeRecord.{rowsOf, nestedBy, metBy, walkOut, closedIn, Walks, fitsByForm, arrayFits}
 
 -- ---- the rows of the loops
 pub rows-of : (n : ℕ) (rs ss es : List ℕ) → rowsOf n rs ≡ map (λ (l : Loop). l .row) (loopsOf n rs ss es)
@@ -196,9 +198,9 @@ module _ (t cells : List ℕ) (f : Frame) (m : Machine) where
 
   by-sort : (b : Bool) (w : Ty) (x base : ℕ)
       → (b ≡ true → places f ≡ pair (f .c1) (f .c2))
-      → (if b then holdsClass (places f) (bySort (if b then Sort.Class else sortFor w) x base)
-          else ofTheType (m .count) w (bySort (if b then Sort.Class else sortFor w) x base))
-      ≡ fitsBySort f (m .count) (if b then Sort.Class else sortFor w) x base
+      → (if b then holdsClass (places f) (byForm (if b then Form.Class else formFor w) x base)
+          else ofTheType (m .count) w (byForm (if b then Form.Class else formFor w) x base))
+      ≡ fitsByForm f (m .count) (if b then Form.Class else formFor w) x base
   by-sort true w x base e = rw (e refl)
   by-sort false bool x base e = bool-by (m .count) x
   by-sort false uint x base e = refl
@@ -213,17 +215,17 @@ module _ (t cells : List ℕ) (f : Frame) (m : Machine) where
       go true h = refl
       go false h = absurd (false≢true h)
 
-  fits-is : (i : ℕ) → i < f .decls → fitting i ≡ fitsBySort f (m .count) (sortIn t f i) (getD (m .numbers) i 0) (getD (m .bases) i 0)
-  unfolding sortIn varsOf
+  fits-is : (i : ℕ) → i < f .counts .decls → fitting i ≡ fitsByForm f (m .count) (formIn t f i) (getD (m .numbers) i 0) (getD (m .bases) i 0)
+  unfolding formIn varsBy
   fits-is i h =
-      rw (at-tab (f .decls) (λ i. bySort (sortIn t f i) (getD (m .numbers) i 0) (getD (m .bases) i 0)) (Uint 0) i h, count-arrays (m .count) (m .firsts)
+      rw (at-tab (f .counts .decls) (λ i. byForm (formIn t f i) (getD (m .numbers) i 0) (getD (m .bases) i 0)) (Uint 0) i h, count-arrays (m .count) (m .firsts)
           (m .lengths) (m .shapes))
       (by-sort (classed (kindOf f) (tableFor t f) i) (typeAt (tableFor t f) i) (getD (m .numbers) i 0) (getD (m .bases) i 0) (classed-places i))
 
-  vars-by : variablesFit (kindOf f) (places f) (tableFor t f) (stateOf t f m cells) ≡ all (f .decls) fitting
-  unfolding varsOf
-  vars-by = rw (eq-eqb (length (varsOf t f (m .numbers) (m .bases))) (f .decls)
-      (length-tab (f .decls) (λ i. bySort (sortIn t f i) (getD (m .numbers) i 0) (getD (m .bases) i 0))))
+  vars-by : variablesFit (kindOf f) (places f) (tableFor t f) (stateOf t f m cells) ≡ all (f .counts .decls) fitting
+  unfolding varsBy
+  vars-by = rw (eq-eqb (length (varsOf t f (m .numbers) (m .bases))) (f .counts .decls)
+      (length-tab (f .counts .decls) (λ i. byForm (formIn t f i) (getD (m .numbers) i 0) (getD (m .bases) i 0))))
 
   -- those below i fit
   abbrev pub Fits : ℕ → Type 0
@@ -233,15 +235,15 @@ module _ (t cells : List ℕ) (f : Frame) (m : Machine) where
   unfolding all
   vars-none = refl
 
-  module _ (i : ℕ) (h : i < f .decls) {sort : Sort} (e : sort ≡ sortIn t f i) where
-    pub vars-next : Fits i → fitsBySort f (m .count) sort (getD (m .numbers) i 0) (getD (m .bases) i 0) ≡ true → Fits (i + 1)
+  module _ (i : ℕ) (h : i < f .counts .decls) {sort : Form} (e : sort ≡ formIn t f i) where
+    pub vars-next : Fits i → fitsByForm f (m .count) sort (getD (m .numbers) i 0) (getD (m .bases) i 0) ≡ true → Fits (i + 1)
     vars-next F g = all-more fitting i F (fits-is i h ∙ rw (← e, g))
 
-    pub vars-off : fitsBySort f (m .count) sort (getD (m .numbers) i 0) (getD (m .bases) i 0) ≡ false
+    pub vars-off : fitsByForm f (m .count) sort (getD (m .numbers) i 0) (getD (m .bases) i 0) ≡ false
         → false ≡ variablesFit (kindOf f) (places f) (tableFor t f) (stateOf t f m cells)
-    vars-off g = sym (vars-by ∙ all-stop (f .decls) fitting i h (fits-is i h ∙ rw (← e, g)))
+    vars-off g = sym (vars-by ∙ all-stop (f .counts .decls) fitting i h (fits-is i h ∙ rw (← e, g)))
 
-  pub vars-done : (i : ℕ) → Fits i → i ≡ f .decls → true ≡ variablesFit (kindOf f) (places f) (tableFor t f) (stateOf t f m cells)
+  pub vars-done : (i : ℕ) → Fits i → i ≡ f .counts .decls → true ≡ variablesFit (kindOf f) (places f) (tableFor t f) (stateOf t f m cells)
   vars-done i F e = sym (vars-by ∙ ap (λ (n : ℕ). all n fitting) (sym e) ∙ F)
 
 -- ---- the arrays
@@ -326,25 +328,25 @@ module _ (t cells : List ℕ) (f : Frame) (m : Machine) where
   abbrev fits : Bool
   fits = recordFits (kindOf f) (places f) (tableFor t f) (stateOf t f m cells)
 
-  pub fits-row : f .rows < m .row → false ≡ fits
+  pub fits-row : f .counts .rows < m .row → false ≡ fits
   unfolding recordFits
-  fits-row h = rw (lt-leb (m .row) (f .rows) h)
+  fits-row h = rw (lt-leb (m .row) (f .counts .rows) h)
 
-  module _ (h : m .row ≤ f .rows) {a : Bool} (p : a ≡ loopsAround (tableFor t f) (stateOf t f m cells)) where
+  module _ (h : m .row ≤ f .counts .rows) {a : Bool} (p : a ≡ loopsAround (tableFor t f) (stateOf t f m cells)) where
     pub fits-around : a ≡ false → false ≡ fits
     unfolding recordFits
-    fits-around e = rw (le-leb (m .row) (f .rows) h, ← p, e)
+    fits-around e = rw (le-leb (m .row) (f .counts .rows) h, ← p, e)
 
     module _ (e : a ≡ true) {b : Bool} (q : b ≡ startsWithin (loopsOf (m .open) (m .«loop_rows») (m .starts) (m .ends))) where
       pub fits-starts : b ≡ false → false ≡ fits
       unfolding recordFits
-      fits-starts g = rw (le-leb (m .row) (f .rows) h, ← p, e, ← q, g)
+      fits-starts g = rw (le-leb (m .row) (f .counts .rows) h, ← p, e, ← q, g)
 
       module _ (g : b ≡ true) {d : Bool} (r : d ≡ variablesFit (kindOf f) (places f) (tableFor t f) (stateOf t f m cells)) where
         pub fits-variables : d ≡ false → false ≡ fits
         unfolding recordFits
-        fits-variables i = rw (le-leb (m .row) (f .rows) h, ← p, e, ← q, g, ← r, i)
+        fits-variables i = rw (le-leb (m .row) (f .counts .rows) h, ← p, e, ← q, g, ← r, i)
 
         pub fits-arrays : d ≡ true → {x : Bool} → x ≡ arraysFit (kindOf f) (places f) (stateOf t f m cells) → x ≡ fits
         unfolding recordFits
-        fits-arrays i s = s ∙ rw (le-leb (m .row) (f .rows) h, ← p, e, ← q, g, ← r, i)
+        fits-arrays i s = s ∙ rw (le-leb (m .row) (f .counts .rows) h, ← p, e, ← q, g, ← r, i)

@@ -16,8 +16,9 @@ use Rattle.model.specs.State.{fresh, placesIn}
 use Rattle.model.specs.Step.{Report, run}
 use Rattle.model.specs.Demand3.{choicesUsed}
 use Rattle.machine.specs.declared.Machine.{Machine}
-use Rattle.machine.specs.declared.frame.Frame.{Frame}
-use Rattle.machine.specs.View.{places, kindOf, tableFor, stateOf}
+use Rattle.prepared.specs.declared.Frame.{Frame}
+use Rattle.prepared.specs.View.{places, kindOf, tableFor}
+use Rattle.machine.specs.View.{stateOf}
 use Rattle.runs.specs.declared.Ran.{Ran}
 use Rattle.runs.specs.declared.Answered.{Answered}
 use Rattle.runs.specs.Record.{recordFits}
@@ -35,7 +36,7 @@ reported : (t : List ℕ) (f : Frame) (l : List ℕ) (r : Ran) (cells : List ℕ
 reported t f l r cells report R =
     ap (reports (reportOf t f l r cells)) (used-is t f l r cells (R .within)) ∙ ap (ranSaid l) (R .report)
 
-module _ (t : List ℕ) (classes : Bool) (c1 c2 : ℕ) (l cells : List ℕ) (limit : ℕ) (v : Verdict) 
+module _ (t : List ℕ) (classes : Bool) (c1 c2 : ℕ) (l cells : List ℕ) (limit : ℕ) (v : Verdict)
     (q : v ≡ runChecks (machineOf classes) (placesIn (machineOf classes) (pair c1 c2)) t (length cells)) where
   abbrev fr : Frame
   fr = frameOf t classes c1 c2

@@ -10,7 +10,7 @@ use Rattle.model.specs.Table.{tableOf}
 use Rattle.model.specs.State.{MachineKind, State, fresh}
 use Rattle.model.specs.Step.{Report, run}
 use Rattle.model.specs.Demand3.{choicesUsed}
-use Rattle.machine.specs.declared.frame.Frame.{Frame}
+use Rattle.prepared.specs.declared.Frame.{Frame}
 use Rattle.runs.specs.declared.Answered.{Answered}
 use Rattle.runs.specs.Record.{recordCheck}
 use Rattle.runs.specs.Checks.{runChecks}

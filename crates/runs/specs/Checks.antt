@@ -5,11 +5,11 @@ use mathlib.Core.List.{List}
 use Rattle.table.specs.declared.Verdict.{Verdict}
 use Rattle.table.specs.declared.Verdict.the-variants.{Passes}
 use Rattle.table.specs.Checks.{tableCheck, andThen, sizeCheck}
-use Rattle.model.specs.Table.{count, isDeclaration, isNode, isRow}
+use Rattle.table.specs.Code.{countsOf}
 use Rattle.model.specs.State.{MachineKind, cellCount}
 use Rattle.model.specs.State.MachineKind.{plain, reduced}
 use Rattle.reduction.specs.Reduction.{placesCheck}
-use Rattle.machine.specs.declared.frame.Frame.{Frame}
+use Rattle.prepared.specs.declared.Frame.{Frame}
 
 -- the plain machine tracks no place, and has none checked
 abbrev pub placesFor : MachineKind → List ℕ → Verdict
@@ -26,7 +26,5 @@ frameOf t classes c1 c2 = record {
   c1 = c1;
   c2 = c2;
   classes = classes;
-  decls = count isDeclaration t;
-  nodes = count isNode t;
-  rows = count isRow t;
+  counts = countsOf t;
 }

@@ -8,9 +8,9 @@ use lib.ListN.{getD, drop}
 use lib.Dec.{leb, eqb}
 use Rattle.model.specs.Class.{classHeld, pair}
 use Rattle.lists.specs.If.{if_then_else_}
-use Rattle.machine.specs.declared.frame.Frame.{Frame}
-use Rattle.machine.specs.declared.variables.Sort.{Sort}
-use Rattle.machine.specs.declared.variables.Sort.the-variants.{Bool as SBool, Uint as SUint, Class as SClass, Pointer as SPointer}
+use Rattle.prepared.specs.declared.Frame.{Frame}
+use Rattle.prepared.specs.declared.Form.{Form}
+use Rattle.prepared.specs.declared.Form.the-variants.{Bool as FBool, Uint as FUint, Class as FClass, Pointer as FPointer}
 use Rattle.runs.specs.declared.loops.Walk.{Walk}
 use Rattle.runs.specs.declared.loops.Walk.the-variants.{On, Differs}
 use Rattle.runs.specs.Record.{sameNumbers}
@@ -43,11 +43,11 @@ pub record Walks (rows : List ℕ) (nest closed left i : ℕ) (r : Walk) : Type 
   pub walked : (os : List ℕ) → walkOut rows r os ≡ sameNumbers (rowsOf left rows) (drop closed (nestedBy nest i os))
 
 -- ---- a variable, with so many arrays in the record
-abbrev pub fitsBySort : Frame → ℕ → Sort → ℕ → ℕ → Bool
-fitsBySort f count SBool x base = leb x 1
-fitsBySort f count SUint x base = true
-fitsBySort f count SClass x base = classHeld (pair (f .c1) (f .c2)) x
-fitsBySort f count SPointer x base = leb base count
+abbrev pub fitsByForm : Frame → ℕ → Form → ℕ → ℕ → Bool
+fitsByForm f count FBool x base = leb x 1
+fitsByForm f count FUint x base = true
+fitsByForm f count FClass x base = classHeld (pair (f .c1) (f .c2)) x
+fitsByForm f count FPointer x base = leb base count
 
 -- ---- an array, which must start at `from`
 abbrev pub arrayFits : Frame → ℕ → ℕ → Bool → Bool

@@ -5,17 +5,20 @@ use mathlib.Core.List.{List}
 use lib.ListN.{length}
 use Rattle.model.specs.Table.{nestAt, openAt}
 use Rattle.model.specs.Table.Nest.{opens}
-use Rattle.model.specs.Step.{Report}
+use Rattle.model.specs.Step.{Report, run}
 use Rattle.model.specs.Accepted.{Accepted, CanHave, Regular}
 use Rattle.table.specs.Code.{InSorts}
 use Rattle.machine.specs.declared.Machine.{Machine}
-use Rattle.machine.specs.declared.frame.Frame.{Frame}
-use Rattle.machine.specs.declared.rows.Outcome.{Outcome}
-use Rattle.machine.specs.declared.rows.Outcome.the-variants.{Goes, AssertFalse, AssumeFalse, WantOfCells, Fails, BadChoice, NoChoice, Stuck}
-use Rattle.runs.specs.declared.End.{End}
-use Rattle.runs.specs.declared.End.the-variants as Code
+use Rattle.prepared.specs.declared.Frame.{Frame}
+use Rattle.machine.specs.declared.End.{End}
+use Rattle.machine.specs.declared.End.the-variants as Code
+use Rattle.machine.specs.declared.Worked.{Worked}
+use Rattle.machine.specs.declared.Worked.the-variants.{Moves, Ends, Not}
+use Rattle.evaluators.specs.declared.answers.Failure.{Failure}
+use Rattle.evaluators.specs.declared.answers.Failure.the-variants.{Fails, BadChoice, NoChoice, Stuck}
 use Rattle.runs.specs.declared.Ran.{Ran}
-use Rattle.machine.specs.View.{places, kindOf, tableFor, stateOf}
+use Rattle.prepared.specs.View.{places, kindOf, tableFor}
+use Rattle.machine.specs.View.{stateOf}
 use Rattle.table.specs.declared.Verdict.the-variants.{Passes}
 use Rattle.model.specs.Table.{tableOf}
 use Rattle.runs.specs.Checks.{runChecks}
@@ -25,7 +28,7 @@ use Rattle.runs.specs.Ends.{reportOf}
 pub record Ready (t : List ℕ) (f : Frame) (m : Machine) (cells : List ℕ) : Type 0 where
   pub accepted : Accepted (kindOf f) (tableFor t f)
   pub laid : InSorts (tableFor t f)
-  pub few : (r : ℕ) → r < f .rows → nestAt (tableFor t f) r ≡ opens → length (openAt (tableFor t f) r) < 8
+  pub few : (r : ℕ) → r < f .counts .rows → nestAt (tableFor t f) r ≡ opens → length (openAt (tableFor t f) r) < 8
   pub can : CanHave (places f) (kindOf f) (tableFor t f) (stateOf t f m cells)
   pub regular : Regular (places f) (kindOf f) (tableFor t f) (stateOf t f m cells)
   pub room : length cells ≤ 4294967295
@@ -36,20 +39,25 @@ ran e n at m = record { end = e; steps = n; used = at; machine = m }
 -- A row that does not go on, after n steps, with the next choice at `at`: "A step that ends a run counts"; "its used choices
 -- count"; "The last three ends don't count their step or its choices." (R13) No step of a run is stuck, and none that goes on is asked of, so what
 -- stands there is never handed back.
-abbrev pub stoppedOf : Outcome → ℕ → ℕ → Machine → Ran
-stoppedOf (Goes next) n at m = ran Code.Fail n at m
-stoppedOf (AssertFalse next) n at m = ran Code.AssertFalse (suc n) next m
-stoppedOf (AssumeFalse next) n at m = ran Code.AssumeFalse (suc n) next m
-stoppedOf (WantOfCells next) n at m = ran Code.WantOfCells (suc n) next m
-stoppedOf (Fails next) n at m = ran Code.Fail (suc n) next m
-stoppedOf BadChoice n at m = ran Code.ChoiceNotAllowed n at m
-stoppedOf NoChoice n at m = ran Code.NoChoiceLeft n at m
-stoppedOf Stuck n at m = ran Code.Fail n at m
+abbrev pub failedOf : Failure → ℕ → ℕ → ℕ → Machine → Ran
+failedOf Fails next n at m = ran Code.Fail (suc n) next m
+failedOf BadChoice next n at m = ran Code.ChoiceNotAllowed n at m
+failedOf NoChoice next n at m = ran Code.NoChoiceLeft n at m
+failedOf Stuck next n at m = ran Code.Fail n at m
+
+abbrev pub stoppedOf : Worked → ℕ → ℕ → Machine → Ran
+stoppedOf (Moves x next) n at m = ran Code.Fail n at m
+stoppedOf (Ends e next) n at m = ran e (suc n) next m
+stoppedOf (Not why next) n at m = failedOf why next n at m
 
 -- what a run hands back is a report, and the choices used are numbers of the list
 pub record Reports (t : List ℕ) (f : Frame) (l : List ℕ) (r : Ran) (cells : List ℕ) (said : Report) : Type 0 where
   pub report : reportOf t f l r cells ≡ said
   pub within : r .used ≤ length l
+
+-- ... of the run from a record on, with a limit
+abbrev pub RunReports : List ℕ → Frame → Machine → List ℕ → List ℕ → ℕ → Ran → List ℕ → Type 0
+RunReports t f m cells l limit r cells′ = reportOf t f l r cells′ ≡ run (places f) (tableFor t f) limit 0 (stateOf t f m cells) l
 
 -- a table, its frame and cells that pass
 pub record Lends (t : List ℕ) (f : Frame) (cells : List ℕ) : Type 0 where

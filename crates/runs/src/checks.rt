@@ -1,9 +1,9 @@
 // What every run checks of what it is lent: the table, the places, the size of the cells. And the frame of a table, and a refusal.
 use crate::Answered;
-use crate::End;
 use crate::Ran;
+use machine::End;
 use machine::Machine;
-use machine::frame::Frame;
+use prepared::Frame;
 use reduction::check_pair;
 use table::Verdict;
 use table::check_table;
@@ -19,14 +19,12 @@ ghost use Rattle.runs.specs.Checks.{frameOf, placesFor, runChecks};
 pub fn frame_of(t: &[u32], classes: bool, c1: u32, c2: u32) -> Frame
     ensures { λ r. ⌜ r ≡ frameOf (now (t .entry)) classes c1 c2 ⌝ }
 {
-    let c = counts_of(t);
+    let counts = counts_of(t);
     Frame {
         c1,
         c2,
         classes,
-        decls: c.decls,
-        nodes: c.nodes,
-        rows: c.rows,
+        counts,
     }
 }
 
@@ -75,23 +73,11 @@ pub fn check_run(t: &[u32], cells: &[u32], classes: bool, c1: u32, c2: u32) -> V
     check_size(cells.len(), cells_of(classes))
 }
 
-// A refusal.
-pub(crate) fn refused(verdict: Verdict) -> Answered
+// A refusal. Public for the choice writer.
+pub fn refused(verdict: Verdict) -> Answered
     ensures { λ r. ⌜ r .verdict ≡ verdict ⌝ }
 {
-    let machine = Machine {
-        row: 0,
-        open: 0,
-        loop_rows: [0; 8],
-        starts: [0; 8],
-        ends: [0; 8],
-        numbers: [0; 32],
-        bases: [0; 32],
-        count: 0,
-        firsts: [0; 16],
-        lengths: [0; 16],
-        shapes: [0; 16],
-    };
+    let machine = Machine::blank();
     let ran = Ran {
         end: End::Done,
         steps: 0,

@@ -26,7 +26,9 @@ pub fn continued_run(
     c2: u32,
     limit: u32,
 ) -> Answered
-    ensures { λ r. ⌜ saidOf (now (t .entry)) (frameOf (now (t .entry)) classes c1 c2) (now (list .entry)) r (now (cells .exit)) ≡ continuedSaid (machineOf classes) (placesIn (machineOf classes) (pair c1 c2)) (now (t .entry)) (stateOf (now (t .entry)) (frameOf (now (t .entry)) classes c1 c2) m (now (cells .entry))) (now (list .entry)) limit ⌝ }
+    ensures { λ r. ⌜ saidOf (now (t .entry)) (frameOf (now (t .entry)) classes c1 c2) (now (list .entry)) r (now (cells .exit)) ≡ continuedSaid
+        (machineOf classes) (placesIn (machineOf classes) (pair c1 c2)) (now (t .entry)) (stateOf (now (t .entry)) (frameOf (now
+        (t .entry)) classes c1 c2) m (now (cells .entry))) (now (list .entry)) limit ⌝ }
 {
     let v = check_run(t, cells, classes, c1, c2);
     let Verdict::Passes = v else {

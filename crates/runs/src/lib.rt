@@ -8,6 +8,7 @@ pub mod steps;
 
 use continued::continued_run;
 use fresh::fresh_run;
+use machine::End;
 use machine::Machine;
 use table::Verdict;
 ghost use mathlib.Core.Path.{_≡_};
@@ -19,19 +20,8 @@ ghost use Rattle.machine.specs.View.{stateOf};
 ghost use Rattle.runs.specs.Checks.{frameOf};
 ghost use Rattle.runs.specs.Answers.{saidOf, freshSaid, continuedSaid};
 
-// The ends of document 01 but for "list full", which is the choice writer's.
-pub enum End {
-    Done,
-    AssertFalse,
-    AssumeFalse,
-    Fail,
-    WantOfCells,
-    OutOfSteps,
-    ChoiceNotAllowed,
-    NoChoiceLeft,
-}
-
-// What a run hands back, beside the cells: its end, the steps, the choices used, and the record, whose row is where the run stands.
+// What a run hands back, beside the cells: its end, the steps, the choices used, and the record, whose row is where the run stands. Of the
+// choice writer the same, with the numbers written for the choices used.
 pub struct Ran {
     pub end: End,
     pub steps: u32,
@@ -39,7 +29,7 @@ pub struct Ran {
     pub machine: Machine,
 }
 
-// The answer of a run: whether it was refused; what the run came to is no part of a refusal.
+// The answer of a run or of the choice writer: whether it was refused; what the run came to is no part of a refusal.
 pub struct Answered {
     pub verdict: Verdict,
     pub ran: Ran,
@@ -47,14 +37,16 @@ pub struct Answered {
 
 // A fresh run of the plain machine on a table, in lent cells, with a limit of steps.
 pub fn run_plain(t: &[u32], cells: &mut [u32], limit: u32) -> Answered
-    ensures { λ r. ⌜ saidOf (now (t .entry)) (frameOf (now (t .entry)) false 0 0) [] r (now (cells .exit)) ≡ freshSaid plain [] (now (t .entry)) (now (cells .entry)) [] limit ⌝ }
+    ensures { λ r. ⌜ saidOf (now (t .entry)) (frameOf (now (t .entry)) false 0 0) [] r (now (cells .exit)) ≡ freshSaid plain [] (now (t .entry))
+        (now (cells .entry)) [] limit ⌝ }
 {
     fresh_run(t, cells, &t[..0], false, 0, 0, limit)
 }
 
 // A run of the plain machine from a record on.
 pub fn continue_plain(m: Machine, t: &[u32], cells: &mut [u32], limit: u32) -> Answered
-    ensures { λ r. ⌜ saidOf (now (t .entry)) (frameOf (now (t .entry)) false 0 0) [] r (now (cells .exit)) ≡ continuedSaid plain [] (now (t .entry)) (stateOf (now (t .entry)) (frameOf (now (t .entry)) false 0 0) m (now (cells .entry))) [] limit ⌝ }
+    ensures { λ r. ⌜ saidOf (now (t .entry)) (frameOf (now (t .entry)) false 0 0) [] r (now (cells .exit)) ≡ continuedSaid plain [] (now (t .entry))
+        (stateOf (now (t .entry)) (frameOf (now (t .entry)) false 0 0) m (now (cells .entry))) [] limit ⌝ }
 {
     continued_run(m, t, cells, &t[..0], false, 0, 0, limit)
 }
@@ -68,7 +60,8 @@ pub fn run_reduced(
     list: &[u32],
     limit: u32,
 ) -> Answered
-    ensures { λ r. ⌜ saidOf (now (t .entry)) (frameOf (now (t .entry)) true c1 c2) (now (list .entry)) r (now (cells .exit)) ≡ freshSaid reduced (pair c1 c2) (now (t .entry)) (now (cells .entry)) (now (list .entry)) limit ⌝ }
+    ensures { λ r. ⌜ saidOf (now (t .entry)) (frameOf (now (t .entry)) true c1 c2) (now (list .entry)) r (now (cells .exit)) ≡ freshSaid reduced
+        (pair c1 c2) (now (t .entry)) (now (cells .entry)) (now (list .entry)) limit ⌝ }
 {
     fresh_run(t, cells, list, true, c1, c2, limit)
 }
@@ -83,7 +76,9 @@ pub fn continue_reduced(
     list: &[u32],
     limit: u32,
 ) -> Answered
-    ensures { λ r. ⌜ saidOf (now (t .entry)) (frameOf (now (t .entry)) true c1 c2) (now (list .entry)) r (now (cells .exit)) ≡ continuedSaid reduced (pair c1 c2) (now (t .entry)) (stateOf (now (t .entry)) (frameOf (now (t .entry)) true c1 c2) m (now (cells .entry))) (now (list .entry)) limit ⌝ }
+    ensures { λ r. ⌜ saidOf (now (t .entry)) (frameOf (now (t .entry)) true c1 c2) (now (list .entry)) r (now (cells .exit)) ≡ continuedSaid reduced
+        (pair c1 c2) (now (t .entry)) (stateOf (now (t .entry)) (frameOf (now (t .entry)) true c1 c2) m (now (cells .entry))) (now
+        (list .entry)) limit ⌝ }
 {
     continued_run(m, t, cells, list, true, c1, c2, limit)
 }

@@ -1,11 +1,12 @@
 // Check 15, of the open loops: those around the row, outermost first, and no start above its end.
 use lists::word_or_zero;
 use machine::Machine;
-use machine::frame::Frame;
+use prepared::Frame;
 use table::kinds::nest_of;
 ghost use mathlib.Core.Path.{_≡_};
 ghost use Prim.Native.Nat.{_≤_, _<_, _^_};
-ghost use Rattle.machine.specs.View.{tableFor, loopsOf, stateOf};
+ghost use Rattle.prepared.specs.View.{tableFor};
+ghost use Rattle.machine.specs.View.{loopsOf, stateOf};
 ghost use Rattle.runs.specs.Record.{loopsAround, startsWithin};
 ghost use Rattle.runs.specs.CodeRecord.{Walks, metBy};
 
@@ -53,7 +54,7 @@ fn passed(rows: &[u32], nest: u32, closed: usize, left: usize, i: usize) -> Walk
 
 // The open loops are those around the row.
 pub fn loops_around(t: &[u32], cells: &[u32], f: Frame, m: Machine) -> bool
-    requires { ⌜ (f .decls ≤ 32) × (f .nodes ≤ 1024) × (m .row ≤ 256) ⌝ }
+    requires { ⌜ (f .counts .decls ≤ 32) × (f .counts .nodes ≤ 1024) × (m .row ≤ 256) ⌝ }
     ensures { λ r. ⌜ r ≡ loopsAround (tableFor (now (t .entry)) f) (stateOf (now (t .entry)) f m (now (cells .entry))) ⌝ }
 {
     let mut closed: usize = 0;
@@ -61,7 +62,7 @@ pub fn loops_around(t: &[u32], cells: &[u32], f: Frame, m: Machine) -> bool
     let mut i = m.row as usize;
     while 0 < i {
         i -= 1;
-        let nest = nest_of(word_or_zero(t, 4 * (f.decls + f.nodes + i)));
+        let nest = nest_of(word_or_zero(t, 4 * (f.counts.decls + f.counts.nodes + i)));
         let w = passed(&m.loop_rows[..], nest, closed, left, i);
         let Walk::On(c, n) = w else {
             return false;

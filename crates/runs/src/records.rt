@@ -2,18 +2,19 @@
 use crate::loops::loops_around;
 use crate::loops::starts_within;
 use machine::Machine;
-use machine::frame::Frame;
-use machine::news::size_for;
-use machine::variables::Sort;
-use machine::variables::sort_at;
+use prepared::Frame;
+use prepared::Form;
+use prepared::forms::form_of;
 use model::class_of;
 ghost use mathlib.Core.Path.{_≡_};
 ghost use Prim.Native.Nat.{_≤_};
 ghost use Rattle.model.specs.Class.{candidate, classHeld, pair};
 ghost use Rattle.table.specs.Code.{InSorts};
-ghost use Rattle.machine.specs.View.{kindOf, places, tableFor, stateOf};
+ghost use Rattle.prepared.specs.View.{kindOf, places, tableFor};
+ghost use Rattle.machine.specs.CodeRows.{sizeFor};
+ghost use Rattle.machine.specs.View.{stateOf};
 ghost use Rattle.runs.specs.Record.{variablesFit, arraysFit, recordFits};
-ghost use Rattle.runs.specs.CodeRecord.{fitsBySort, arrayFits};
+ghost use Rattle.runs.specs.CodeRecord.{fitsByForm, arrayFits};
 
 // The one number that decides whether a class holds a number: 0, a place, or the number after a place.
 fn candidate_of(c1: u32, c2: u32, k: u32) -> u64
@@ -39,28 +40,28 @@ fn class_held(f: Frame, k: u32) -> bool
     class_of(f.c1, f.c2, n as u32) == k
 }
 
-// A number and a base suit a variable's sort, with so many arrays in the record.
-fn variable_fits(f: Frame, sort: Sort, number: u32, base: u32, count: u32) -> bool
-    ensures { λ r. ⌜ r ≡ fitsBySort f count sort number base ⌝ }
+// A number and a base suit a variable's form, with so many arrays in the record.
+fn variable_fits(f: Frame, form: Form, number: u32, base: u32, count: u32) -> bool
+    ensures { λ r. ⌜ r ≡ fitsByForm f count form number base ⌝ }
 {
-    match sort {
-        Sort::Bool => number <= 1,
-        Sort::Uint => true,
-        Sort::Class => class_held(f, number),
-        Sort::Pointer => base <= count,
+    match form {
+        Form::Bool => number <= 1,
+        Form::Uint => true,
+        Form::Class => class_held(f, number),
+        Form::Pointer => base <= count,
     }
 }
 
 // Every variable is of its type.
 fn variables_fit(t: &[u32], cells: &[u32], f: Frame, m: Machine) -> bool
-    requires { ⌜ f .decls ≤ 32 ⌝ }
+    requires { ⌜ f .counts .decls ≤ 32 ⌝ }
     ensures { λ r. ⌜ r ≡ variablesFit (kindOf f) (places f) (tableFor (now (t .entry)) f) (stateOf (now (t .entry)) f m (now (cells .entry))) ⌝ }
 {
     let mut i: usize = 0;
-    let decls = f.decls;
+    let decls = f.counts.decls;
     while i < decls {
-        let sort = sort_at(t, f, i);
-        if variable_fits(f, sort, m.numbers[i], m.bases[i], m.count) {
+        let form = form_of(t, f, i);
+        if variable_fits(f, form, m.numbers[i], m.bases[i], m.count) {
             i += 1;
         } else {
             return false;
@@ -74,6 +75,19 @@ fn array_fits(f: Frame, start: u32, from: usize, reduced: bool) -> bool
     ensures { λ r. ⌜ r ≡ arrayFits f start from reduced ⌝ }
 {
     (start as usize == from) & (f.classes | !reduced)
+}
+
+// How many cells an array of a length has.
+fn size_for(f: Frame, len: u32, reduced: bool) -> u32
+    ensures { λ r. ⌜ r ≡ sizeFor (places f) len reduced ⌝ }
+{
+    if reduced {
+        if f.classes {
+            return class_of(f.c1, f.c2, len);
+        }
+        return 0;
+    }
+    len
 }
 
 // At most 16 arrays, in sequence, within the cells, and none reduced in a plain record.
@@ -103,7 +117,7 @@ pub fn record_fits(t: &[u32], cells: &[u32], f: Frame, m: Machine) -> bool
     requires { ⌜ InSorts (tableFor (now t) f) ⌝ }
     ensures { λ r. ⌜ r ≡ recordFits (kindOf f) (places f) (tableFor (now (t .entry)) f) (stateOf (now (t .entry)) f m (now (cells .entry))) ⌝ }
 {
-    if f.rows < m.row as usize {
+    if f.counts.rows < m.row as usize {
         return false;
     }
     if !loops_around(t, cells, f, m) {

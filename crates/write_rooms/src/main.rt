@@ -1,7 +1,7 @@
 // Writes the choices of T (document 01) for the pair 1, 3 into lists of every length from 0 to 31, lent full of sevens, and prints for each
 // the end, the row, the steps, how many numbers were written, and the list at exit.
-use choices::Answered;
-use choices::End;
+use machine::End;
+use runs::Answered;
 use table::Verdict;
 ghost use Prim.Native.Nat.{_≤_};
 
@@ -100,6 +100,9 @@ fn print_end(end: End) {
         End::ListFull => {
             io::write_all(1, b" full");
         }
+        End::ChoiceNotAllowed | End::NoChoiceLeft => {
+            io::write_all(1, b" wrong");
+        }
     }
 }
 
@@ -123,7 +126,7 @@ fn print_answer(a: Answered) {
         io::write_all(1, b" refused");
         return;
     };
-    let w = a.wrote;
+    let w = a.ran;
     let end = w.end;
     print_end(end);
     let m = w.machine;
@@ -132,7 +135,7 @@ fn print_answer(a: Answered) {
     io::write_all(1, b" steps ");
     io::print_decimal(1, w.steps as u64);
     io::write_all(1, b" count ");
-    io::print_decimal(1, w.count);
+    io::print_decimal(1, w.used);
     io::write_all(1, b":");
 }
 

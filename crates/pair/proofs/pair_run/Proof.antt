@@ -33,7 +33,10 @@ run-file-requires : tie.Need-run-file-requires
 run-file-requires c κs = search needs
 
 returns-2 : tie.Need-returns-2
-returns-2 c = long-said (c .before .before .before .before .before .before .before .args .input .now) (c .run-file .result) (c .before .before .before .before .before .if1 .left) _ _ _ (c .before .before .before .before .word-at .ensures) (c .before .before .before .word-at2 .ensures) (c .before .before .word-at3 .ensures) (c .run-file .ensures)
+returns-2 c =
+    long-said (c .before .before .before .before .before .before .before .args .input .now) (c .run-file .result) (c .before .before .before .before .before
+        .if1 .left) _ _ _ (c .before .before .before .before .word-at .ensures) (c .before .before .before .word-at2 .ensures) (c .before .before .word-at3
+        .ensures) (c .run-file .ensures)
 
 pub pair-run-spec : {M : Type 1} → statement M
 pair-run-spec =

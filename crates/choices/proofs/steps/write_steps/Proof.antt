@@ -1,73 +1,232 @@
 -- By what is left of the writer, from where the record stands.
 -- Assumes nothing.
-use Prim.Native.Nat.{ℕ, _-_}
+use Prim.Native.Nat.{ℕ, _+_, _-_, _≤_, _<_}
 use native.Mathlib.Omega.{arith}
-use mathlib.Core.Path.{_≡_, refl, ap, _∙_}
-use mathlib.Core.Logic.{⊎-elim}
-use lib.ListN.{length, length-replicate, length-set}
-use Rattle.recording.specs.CodeRecords.{heldOf}
+use mathlib.Core.Path.{_≡_, refl, sym, ap, _∙_}
+use mathlib.Core.List.{List}
+use lib.ListN.{length, length-replicate}
+use Rattle.machine.specs.declared.Machine.{Machine}
+use Rattle.machine.specs.declared.Move.{Move}
+use Rattle.machine.specs.declared.Worked.the-variants.{Moves}
+use Rattle.machine.specs.CodeMoves.{stepOf, cellsOf, Can, Sized}
 use Rattle.runs.proofs.ReadyLaws.{within}
-use Rattle.choices.proofs.WriteLaws.{Left, left-all, left-done, left-out, left-full, left-stop, left-again, held-set, held-kept, few-numbers, counted, stuck-never}
+use Rattle.choices.specs.declared.steps.Numbers.the-variants.{Count}
+use Rattle.choices.specs.CodeSteps.{countOf}
+use Rattle.choices.proofs.CopyLaws.{copy-plain}
+use Rattle.choices.proofs.WriteLaws.{Left, Recorded, left-all, left-done, left-out, never-uncounted, bounds, few-numbers, inside-list}
+use Rattle.choices.proofs.WriteLaws.{left-full, left-stop, same-cells, left-again}
 use borrow.Author.Needs.{needs}
 use Rattle.choices.proofs.steps.write_steps.Statement.{statement}
 use Rattle.choices.proofs.steps.write_steps.Tie as tie
 
 abbrev Inv-loop : tie.InvT-loop
-Inv-loop m₀ t cells₀ list₀ f limit numbers₀ held₀ at₀ steps₀ m cells list numbers held at steps = Left t f list₀ limit m₀ cells₀ m cells list held at steps × (length cells ≡ length cells₀) × (length numbers ≡ 8192)
+Inv-loop t cells₀ list₀ f limit m₀ own numbers₀ held₀ at₀ steps₀ cells list m numbers held at steps =
+    Left t f list₀ limit m₀ cells₀ m cells list held at steps × (length cells ≡ length cells₀) × (length numbers ≡ 8192)
 
 abbrev μ-loop : tie.MeasureT-loop
-μ-loop m₀ t cells₀ list₀ f limit numbers₀ held₀ at₀ steps₀ m cells list numbers held at steps = limit - steps
+μ-loop t cells₀ list₀ f limit m₀ own numbers₀ held₀ at₀ steps₀ cells list m numbers held at steps = limit - steps
 
+-- ---- places of the function: its start, the loop's head, and where a row is recorded, its numbers are counted and copied, and `hold` is done
+abbrev Start : Type 0
+Start = tie.Start Inv-loop μ-loop
+
+abbrev Head : Type 0
+Head = tie.At-loop Inv-loop μ-loop
+
+abbrev Recording : Type 0
+Recording = tie.After-recorded-move Inv-loop μ-loop
+
+abbrev Counting : Type 0
+Counting = tie.After-known-told Inv-loop μ-loop
+
+abbrev Copying : Type 0
+Copying = tie.After-copy Inv-loop μ-loop
+
+abbrev Holding : Type 0
+Holding = tie.After-hold Inv-loop μ-loop
+
+abbrev start : Head → Start
+start c = c .before .before .before .before .before .before .before
+
+abbrev head : Recording → Head
+head c = c .before .before .before .before .before .before .before .before .before .before .before .before .before .before .before .before .before
+
+abbrev recording : Counting → Recording
+recording c = c .before .before .before .before .before
+
+abbrev counting : Copying → Counting
+counting c = c .before .before .before .before
+
+abbrev copying : Holding → Copying
+copying c = c .before .before .before .before .before .before .before .before
+
+-- ---- what is known there
+sized : (c : Start) → Sized (c .args .t1)
+sized c = record {
+  numbers = search needs;
+  bases = search needs;
+  rows = search needs;
+  starts = search needs;
+  ends = search needs;
+  firsts = search needs;
+  lengths = search needs;
+  shapes = search needs;
+}
+
+recorded : (c : Recording) → let h = head c .loop in let g = start (head c) .args in
+    Recorded (g .t .now) (g .f) (g .list .now) (g .limit) (g .t1) (g .cells .now) (h .m) (h .cells) (h .list) (h .held) (h .at) (h .steps)
+    (head c .before .before .lay-out .last .1 .1 .0) (h .numbers) (c .recorded-move .result) (c .recorded-move .last .1 .1 .0)
+recorded c =
+    let h = head c .loop in
+    let p = c .before .before .before .before .before .before .before .before .before .before .before .before .before .before in
+    record {
+      begins = start (head c) .pre;
+      copy = head c .before .before .lay-out .ensures;
+      left = h .inv .0;
+      inside = omega (arith, p .before .if1 .taken);
+      more = omega (arith, h .inv .0 .upto, p .if2 .left);
+      sized = h .inv .2;
+      kept = c .recorded-move .kept .1 .1 .0 ∙ h .inv .2;
+      row = c .recorded-move .ensures;
+    }
+
+-- how many numbers the row has
+abbrev n : Counting → ℕ
+n c = c .before .c .given .0 .0
+
+counted : (c : Counting) → countOf (recording c .recorded-move .result) ≡ Count (n c)
+counted c = sym (c .before .before .before .count-of .ensures) ∙ c .before .c .given .1
+
+fits : (c : Copying) → let h = head (recording (counting c)) .loop in n (counting c) ≤ length (h .list) - h .at
+fits c = c .before .before .before .if3 .left
+
+-- the change that the row comes to
+abbrev change : Holding → Move
+change c = c .before .before .before .before .w .given .0 .0
+
+module _ (c : Holding) {x : Move} (e : change c ≡ x) where
+  abbrev k : Copying
+  k = copying c
+
+  abbrev r : Recording
+  r = recording (counting k)
+
+  moves : r .recorded-move .result ≡ Moves x (c .before .before .before .before .w .given .0 .1 .0)
+  moves = c .before .before .before .before .w .given .1 ∙ ap (λ (x : Move). Moves x (c .before .before .before .before .w .given .0 .1 .0)) e
+
+  can : (head r .loop .m .row < 256) × Can (head r .loop .m .count) (length (head r .loop .cells)) x
+  can = bounds (recorded r) moves
+
+  -- the step that makes it
+  again : (m′ : Machine) (cells′ : List ℕ) → m′ ≡ stepOf (head r .loop .m) x → cells′ ≡ cellsOf (head r .loop .cells) x
+      → let h = head r .loop in let g = start (head r) .args in
+      Left (g .t .now) (g .f) (g .list .now) (g .limit) (g .t1) (g .cells .now) m′ cells′ (k .copy .last .0) (c .hold .last .1 .0)
+      (h .at + n (counting k)) (h .steps + 1) × (length cells′ ≡ length (g .cells .now)) × (length (r .recorded-move .last .1 .1 .0) ≡ 8192)
+  again m′ cells′ em ec =
+      let K = recorded r in
+      let q = counted (counting k) in
+      (left-again K q (fits k) _ (k .copy .ensures) moves m′ cells′ em ec _ (c .hold .ensures),
+          same-cells K q (fits k) _ (k .copy .ensures) moves m′ cells′ em ec ∙ head r .loop .inv .1, K .kept)
+
+less : (c : Holding) → let p = head (recording (counting (copying c))) in
+    start p .args .limit - (p .loop .steps + 1) < start p .args .limit - p .loop .steps
+less c = let u = recorded (recording (counting (copying c))) .more in omega arith
+
+-- ---- the answers
 loop-holds : tie.Need-loop-holds Inv-loop μ-loop
-loop-holds c = let g = c .before .before .before .args in (left-all (g .t .now) (g .f) (g .list .now) (g .limit) (g .m) (g .cells .now) _ (c .before .before .before .pre) (length-replicate {A = ℕ} 16 0), refl, length-replicate {A = ℕ} 8192 0)
+loop-holds c =
+    let s = c .before .before .before .before .before .before in
+    let g = s .args in
+    (left-all (g .t .now) (g .f) (g .list .now) (g .limit) (g .t1) (g .cells .now) _ (s .pre) (sized s) (length-replicate {A = ℕ} 16 0), refl,
+        length-replicate {A = ℕ} 8192 0)
 
 returns : tie.Need-returns Inv-loop μ-loop
-returns c = let g = c .before .before .before .before .before .before .before .before .before .args in let head = c .before .before .before .before .before .loop in left-out (g .t .now) (g .f) (g .list .now) (g .limit) (g .m) (g .cells .now) (head .m) (head .cells) (head .list) (head .held) (head .at) (head .steps) (head .inv .0) (omega (arith, c .before .before .if1 .taken)) (c .before .if2 .taken) _ (c .wrote-to .ensures)
+returns c =
+    let p = c .before .before in
+    left-out (p .before .before .loop .inv .0) (omega (arith, p .if1 .taken)) (c .before .if2 .taken) _ (c .wrote-to .ensures)
 
-step-numbers-requires : tie.Need-step-numbers-requires Inv-loop μ-loop
-step-numbers-requires c κs = let g = c .before .before .before .before .before .before .before .before .before .before .before .args in let head = c .before .before .before .before .before .before .before .loop in (within (g .t .now) (g .f) (head .m) (head .cells) (head .inv .0 .ready) (omega (arith, c .before .before .before .before .if1 .taken)), c .before .before .before .before .before .before .before .before .before .before .before .pre .plain)
+recorded-move-requires : tie.Need-recorded-move-requires Inv-loop μ-loop
+recorded-move-requires c κs =
+    let p = c .before .before .before .before .before .before .before .before .before .before .before .before .before .before in
+    let s = start (p .before .before) in
+    let h = p .before .before .loop in
+    let R = h .inv .0 .ready in
+    let O = p .before .before .before .before .lay-out .ensures in
+    (within (s .args .t .now) (s .args .f) _ O (h .m) (h .cells) R (omega (arith, p .if1 .taken)) (h .inv .0 .sized),
+        copy-plain (s .args .t .now) (s .args .f) (s .pre .plain) (h .m) (h .cells) R _ O)
 
 returns-2 : tie.Need-returns-2 Inv-loop μ-loop
-returns-2 c = let g = c .before .before .before .before .before .before .before .before .before .before .before .before .before .before .before .before .args in let head = c .before .before .before .before .before .before .before .before .before .before .before .before .loop in stuck-never (g .t .now) (g .f) (g .list .now) (g .limit) (g .m) (g .cells .now) (head .m) (head .cells) (head .list) (head .held) (head .at) (head .steps) (head .inv .0) (omega (arith, c .before .before .before .before .before .before .before .before .before .if1 .taken)) _ _ _ _ (c .before .before .before .before .step-numbers .ensures) (c .before .enum-told .given .1)
+returns-2 c =
+    let p = c .before .before .before in
+    absurd (never-uncounted (recorded (p .before .before)) (sym (p .count-of .ensures) ∙ c .before .enum-told .given .1))
 
 returns-3 : tie.Need-returns-3 Inv-loop μ-loop
-returns-3 c = let g = c .before .before .before .before .before .before .before .before .before .before .before .before .before .before .before .before .before .before .args in let head = c .before .before .before .before .before .before .before .before .before .before .before .before .before .before .loop in left-full (g .t .now) (g .f) (g .list .now) (g .limit) (g .m) (g .cells .now) (head .m) (head .cells) (head .list) (head .held) (head .at) (head .steps) (head .inv .0) (omega (arith, c .before .before .before .before .before .before .before .before .before .before .before .if1 .taken)) (omega (arith, head .inv .0 .upto, c .before .before .before .before .before .before .before .before .before .before .if2 .left)) (head .numbers) (c .before .before .before .before .before .before .step-numbers .last .1 .1 .1 .1 .0) (c .before .before .before .c .given .0 .0) (head .inv .2) (counted _ _ _ _ _ (c .before .before .before .before .before .before .step-numbers .ensures) (c .before .before .before .c .given .1)) (c .before .if3 .taken) _ (c .wrote-to3 .ensures)
+returns-3 c =
+    let p = c .before .before in
+    left-full (recorded (recording p)) (counted p) (c .before .if3 .taken) _ (c .wrote-to3 .ensures)
 
 copy-requires : tie.Need-copy-requires Inv-loop μ-loop
-copy-requires c κs = let g = c .before .before .before .before .before .before .before .before .before .before .before .before .before .before .before .before .before .before .before .args in let head = c .before .before .before .before .before .before .before .before .before .before .before .before .before .before .before .loop in let few = few-numbers (g .t .now) (g .f) (g .list .now) (g .limit) (g .m) (g .cells .now) (head .m) (head .cells) (head .list) (head .held) (head .at) (head .steps) (head .inv .0) (omega (arith, c .before .before .before .before .before .before .before .before .before .before .before .before .if1 .taken)) (omega (arith, head .inv .0 .upto, c .before .before .before .before .before .before .before .before .before .before .before .if2 .left)) (head .numbers) (c .before .before .before .before .before .before .before .step-numbers .last .1 .1 .1 .1 .0) (c .before .before .before .before .c .given .0 .0) (head .inv .2) (counted _ _ _ _ _ (c .before .before .before .before .before .before .before .step-numbers .ensures) (c .before .before .before .before .c .given .1)) in (omega (arith, c .before .before .if3 .left, head .inv .0 .within), omega (arith, few, c .before .before .before .before .before .before .before .step-numbers .kept .1 .1 .1 .1 .0, head .inv .2))
+copy-requires c κs =
+    let p = c .before .before .before in
+    let K = recorded (recording p) in
+    (inside-list K (counted p) (c .before .before .if3 .left), few-numbers K (counted p))
 
 add-at : tie.Need-add-at Inv-loop μ-loop
-add-at c = let g = c .before .before .before .before .before .before .before .before .before .before .before .before .before .before .before .before .before .before .before .before .before .before .args in let head = c .before .before .before .before .before .before .before .before .before .before .before .before .before .before .before .before .before .before .loop in record { fits = omega (arith, c .before .before .before .before .before .if3 .left, head .inv .0 .within, c .before .before .before .before .before .before .before .before .before .before .before .before .before .before .before .before .before .before .before .before .before .before .good .1 .1 .1 .0 .0) }
-
-flag-of-requires : tie.Need-flag-of-requires Inv-loop μ-loop
-flag-of-requires c κs = let g = c .before .before .before .before .before .before .before .before .before .before .before .before .before .before .before .before .before .before .before .before .before .before .before .before .args in let head = c .before .before .before .before .before .before .before .before .before .before .before .before .before .before .before .before .before .before .before .before .loop in (head .inv .0 .ready .laid .fewDecls, head .inv .0 .ready .laid .fewNodes)
-
-step-requires : tie.Need-step-requires Inv-loop μ-loop
-step-requires c κs = let g = c .before .before .before .before .before .before .before .before .before .before .before .before .before .before .before .before .before .before .before .before .before .before .before .before .before .before .args in let head = c .before .before .before .before .before .before .before .before .before .before .before .before .before .before .before .before .before .before .before .before .before .before .loop in within (g .t .now) (g .f) (head .m) (head .cells) (head .inv .0 .ready) (omega (arith, c .before .before .before .before .before .before .before .before .before .before .before .before .before .before .before .before .before .before .before .if1 .taken))
+add-at c =
+    let k = c .before .before in
+    let r = recording (counting k) in
+    omega (arith, inside-list (recorded r) (counted (counting k)) (fits k), recorded r .left .size, start (head r) .good .1 .1 .1 .0 .0)
 
 stopped-requires : tie.Need-stopped-requires Inv-loop μ-loop
-stopped-requires c κs = let g = c .before .before .before .before .before .before .before .before .before .before .before .before .before .before .before .before .before .before .before .before .before .before .before .before .before .before .before .before .before .before .before .args in let head = c .before .before .before .before .before .before .before .before .before .before .before .before .before .before .before .before .before .before .before .before .before .before .before .before .before .before .before .loop in omega (arith, head .inv .0 .upto, c .before .before .before .before .before .before .before .before .before .before .before .before .before .before .before .before .before .before .before .before .before .before .before .if2 .left, c .before .before .before .before .before .before .before .before .before .before .before .before .before .before .before .before .before .before .before .before .before .before .before .before .before .before .before .before .before .before .before .fits)
-
-same-length-7 : tie.Need-same-length-7 Inv-loop μ-loop
-same-length-7 c = let g = c .before .before .before .before .before .before .before .before .before .before .before .before .before .before .before .before .before .before .before .before .before .before .before .before .before .before .before .before .before .before .before .before .args in let head = c .before .before .before .before .before .before .before .before .before .before .before .before .before .before .before .before .before .before .before .before .before .before .before .before .before .before .before .before .loop in c .before .before .before .before .before .step .kept .1 .1 .0 ∙ head .inv .1
+stopped-requires c κs = let r = recording (counting (c .before .before .before)) in omega (arith, recorded r .more, start (head r) .fits)
 
 same-length-8 : tie.Need-same-length-8 Inv-loop μ-loop
-same-length-8 c = let g = c .before .before .before .before .before .before .before .before .before .before .before .before .before .before .before .before .before .before .before .before .before .before .before .before .before .before .before .before .before .before .before .before .args in let head = c .before .before .before .before .before .before .before .before .before .before .before .before .before .before .before .before .before .before .before .before .before .before .before .before .before .before .before .before .loop in c .before .before .before .before .before .before .before .before .before .before .before .before .copy .kept .0 ∙ head .inv .0 .size
+same-length-8 c = let k = c .before .before .before .before in k .copy .kept .0 ∙ head (recording (counting k)) .loop .inv .0 .size
 
 returns-4 : tie.Need-returns-4 Inv-loop μ-loop
-returns-4 c = let g = c .before .before .before .before .before .before .before .before .before .before .before .before .before .before .before .before .before .before .before .before .before .before .before .before .before .before .before .before .before .before .before .before .args in let head = c .before .before .before .before .before .before .before .before .before .before .before .before .before .before .before .before .before .before .before .before .before .before .before .before .before .before .before .before .loop in left-stop (g .t .now) (g .f) (g .list .now) (g .limit) (g .m) (g .cells .now) (head .m) (head .cells) (head .list) (head .held) (head .at) (head .steps) (head .inv .0) (omega (arith, c .before .before .before .before .before .before .before .before .before .before .before .before .before .before .before .before .before .before .before .before .before .before .before .before .before .if1 .taken)) (omega (arith, head .inv .0 .upto, c .before .before .before .before .before .before .before .before .before .before .before .before .before .before .before .before .before .before .before .before .before .before .before .before .if2 .left)) (head .numbers) (c .before .before .before .before .before .before .before .before .before .before .before .before .before .before .before .before .before .before .before .before .step-numbers .last .1 .1 .1 .1 .0) (c .before .before .before .before .before .before .before .before .before .before .before .before .before .before .before .before .before .c .given .0 .0) (head .inv .2) (counted _ _ _ _ _ (c .before .before .before .before .before .before .before .before .before .before .before .before .before .before .before .before .before .before .before .before .step-numbers .ensures) (c .before .before .before .before .before .before .before .before .before .before .before .before .before .before .before .before .before .c .given .1)) (c .before .before .before .before .before .before .before .before .before .before .before .before .before .before .before .if3 .left) (c .before .before .before .before .before .before .before .before .before .before .before .before .before .before .before .before .before .before .before .before .step-numbers .kept .1 .1 .1 .1 .0 ∙ head .inv .2) (c .before .before .before .before .before .before .before .before .before .before .before .before .copy .last .0) (c .before .before .before .before .before .before .before .before .before .before .before .before .copy .ensures) _ _ _ (c .before .before .before .before .before .step .ensures .0) (c .before .before .before .before .before .step .ensures .1) (c .before .match2 .keys2) _ (c .stopped .ensures)
+returns-4 c =
+    let k = c .before .before .before .before in
+    left-stop (recorded (recording (counting k))) (counted (counting k)) (fits k) _ (k .copy .ensures) (c .before .match2 .keys2) _ (c .stopped .ensures)
 
 add-steps : tie.Need-add-steps Inv-loop μ-loop
-add-steps c = let g = c .before .before .before .before .before .before .before .before .before .before .before .before .before .before .before .before .before .before .before .before .before .before .before .before .before .before .before .before .before .before .before .before .args in let head = c .before .before .before .before .before .before .before .before .before .before .before .before .before .before .before .before .before .before .before .before .before .before .before .before .before .before .before .before .loop in record { fits = omega (arith, head .inv .0 .upto, c .before .before .before .before .before .before .before .before .before .before .before .before .before .before .before .before .before .before .before .before .before .before .before .before .if2 .left, c .before .before .before .before .before .before .before .before .before .before .before .before .before .before .before .before .before .before .before .before .before .before .before .before .before .before .before .before .before .before .before .before .fits) }
-
-loop-less : tie.Need-loop-less Inv-loop μ-loop
-loop-less c = let g = c .before .before .before .before .before .before .before .before .before .before .before .before .before .before .before .before .before .before .before .before .before .before .before .before .before .before .before .before .before .before .before .before .args in let head = c .before .before .before .before .before .before .before .before .before .before .before .before .before .before .before .before .before .before .before .before .before .before .before .before .before .before .before .before .loop in omega (arith, head .inv .0 .upto, c .before .before .before .before .before .before .before .before .before .before .before .before .before .before .before .before .before .before .before .before .before .before .before .before .if2 .left)
+add-steps c = let r = recording (counting (copying c)) in omega (arith, recorded r .more, start (head r) .fits)
 
 loop-again : tie.Need-loop-again Inv-loop μ-loop
-loop-again c = let g = c .before .before .before .before .before .before .before .before .before .before .before .before .before .before .before .before .before .before .before .before .before .before .before .before .before .before .before .before .before .before .before .before .args in let head = c .before .before .before .before .before .before .before .before .before .before .before .before .before .before .before .before .before .before .before .before .before .before .before .before .before .before .before .before .loop in let sized = ⊎-elim (λ w. ap length (w .3) ∙ length-set (head .held) _ _ ∙ head .inv .0 .column) (λ w. ap length (w .1) ∙ head .inv .0 .column) (c .before .before .before .before .before .before .before .before .if4 .came) in let marked = ⊎-elim (λ w. ap (heldOf (c .before .before .before .before .before .step .result .machine .count)) (w .3) ∙ held-set (g .t .now) (g .f) (g .list .now) (g .limit) (g .m) (g .cells .now) (head .m) (head .cells) (head .list) (head .held) (head .at) (head .steps) (head .inv .0) (omega (arith, c .before .before .before .before .before .before .before .before .before .before .before .before .before .before .before .before .before .before .before .before .before .before .before .before .before .if1 .taken)) (omega (arith, head .inv .0 .upto, c .before .before .before .before .before .before .before .before .before .before .before .before .before .before .before .before .before .before .before .before .before .before .before .before .if2 .left)) (head .numbers) (c .before .before .before .before .before .before .before .before .before .before .before .before .before .before .before .before .before .before .before .before .step-numbers .last .1 .1 .1 .1 .0) (c .before .before .before .before .before .before .before .before .before .before .before .before .before .before .before .before .before .c .given .0 .0) (head .inv .2) (counted _ _ _ _ _ (c .before .before .before .before .before .before .before .before .before .before .before .before .before .before .before .before .before .before .before .before .step-numbers .ensures) (c .before .before .before .before .before .before .before .before .before .before .before .before .before .before .before .before .before .c .given .1)) (c .before .before .before .before .before .before .before .before .before .before .before .before .before .before .before .if3 .left) (c .before .before .before .before .before .before .before .before .before .before .before .before .before .before .before .before .before .before .before .before .step-numbers .kept .1 .1 .1 .1 .0 ∙ head .inv .2) (c .before .before .before .before .before .before .before .before .before .before .before .before .copy .last .0) (c .before .before .before .before .before .before .before .before .before .before .before .before .copy .ensures) _ _ _ (c .before .before .before .before .before .step .ensures .0) _ (c .enum-told2 .given .1) (c .before .before .before .before .before .step .kept .1 .1 .0) (w .0 .taken) (w .1 .ensures)) (λ w. ap (heldOf (c .before .before .before .before .before .step .result .machine .count)) (w .1) ∙ held-kept (g .t .now) (g .f) (g .list .now) (g .limit) (g .m) (g .cells .now) (head .m) (head .cells) (head .list) (head .held) (head .at) (head .steps) (head .inv .0) (omega (arith, c .before .before .before .before .before .before .before .before .before .before .before .before .before .before .before .before .before .before .before .before .before .before .before .before .before .if1 .taken)) (omega (arith, head .inv .0 .upto, c .before .before .before .before .before .before .before .before .before .before .before .before .before .before .before .before .before .before .before .before .before .before .before .before .if2 .left)) (head .numbers) (c .before .before .before .before .before .before .before .before .before .before .before .before .before .before .before .before .before .before .before .before .step-numbers .last .1 .1 .1 .1 .0) (c .before .before .before .before .before .before .before .before .before .before .before .before .before .before .before .before .before .c .given .0 .0) (head .inv .2) (counted _ _ _ _ _ (c .before .before .before .before .before .before .before .before .before .before .before .before .before .before .before .before .before .before .before .before .step-numbers .ensures) (c .before .before .before .before .before .before .before .before .before .before .before .before .before .before .before .before .before .c .given .1)) (c .before .before .before .before .before .before .before .before .before .before .before .before .before .before .before .if3 .left) (c .before .before .before .before .before .before .before .before .before .before .before .before .before .before .before .before .before .before .before .before .step-numbers .kept .1 .1 .1 .1 .0 ∙ head .inv .2) (c .before .before .before .before .before .before .before .before .before .before .before .before .copy .last .0) (c .before .before .before .before .before .before .before .before .before .before .before .before .copy .ensures) _ _ _ (c .before .before .before .before .before .step .ensures .0) _ (c .enum-told2 .given .1) (c .before .before .before .before .before .step .kept .1 .1 .0) (w .0 .left)) (c .before .before .before .before .before .before .before .before .if4 .came) in (left-again (g .t .now) (g .f) (g .list .now) (g .limit) (g .m) (g .cells .now) (head .m) (head .cells) (head .list) (head .held) (head .at) (head .steps) (head .inv .0) (omega (arith, c .before .before .before .before .before .before .before .before .before .before .before .before .before .before .before .before .before .before .before .before .before .before .before .before .before .if1 .taken)) (omega (arith, head .inv .0 .upto, c .before .before .before .before .before .before .before .before .before .before .before .before .before .before .before .before .before .before .before .before .before .before .before .before .if2 .left)) (head .numbers) (c .before .before .before .before .before .before .before .before .before .before .before .before .before .before .before .before .before .before .before .before .step-numbers .last .1 .1 .1 .1 .0) (c .before .before .before .before .before .before .before .before .before .before .before .before .before .before .before .before .before .c .given .0 .0) (head .inv .2) (counted _ _ _ _ _ (c .before .before .before .before .before .before .before .before .before .before .before .before .before .before .before .before .before .before .before .before .step-numbers .ensures) (c .before .before .before .before .before .before .before .before .before .before .before .before .before .before .before .before .before .c .given .1)) (c .before .before .before .before .before .before .before .before .before .before .before .before .before .before .before .if3 .left) (c .before .before .before .before .before .before .before .before .before .before .before .before .before .before .before .before .before .before .before .before .step-numbers .kept .1 .1 .1 .1 .0 ∙ head .inv .2) (c .before .before .before .before .before .before .before .before .before .before .before .before .copy .last .0) (c .before .before .before .before .before .before .before .before .before .before .before .before .copy .ensures) _ _ _ (c .before .before .before .before .before .step .ensures .0) _ (c .enum-told2 .given .1) (c .before .before .before .before .before .step .kept .1 .1 .0) (c .before .before .before .before .before .before .before .before .if4 .held) sized marked, c .before .before .before .before .before .step .kept .1 .1 .0 ∙ head .inv .1, c .before .before .before .before .before .before .before .before .before .before .before .before .before .before .before .before .before .before .before .before .step-numbers .kept .1 .1 .1 .1 .0 ∙ head .inv .2)
+unfolding stepOf cellsOf
+loop-again c = again (c .before .before .before) (c .before .enum-told2 .given .1) _ _ (c .pass .ensures) refl
+
+loop-again-2 : tie.Need-loop-again-2 Inv-loop μ-loop
+unfolding stepOf cellsOf
+loop-again-2 c = again (c .before .before .before .before) (c .before .before .change .given .1) _ _ (c .put .ensures) refl
+
+mul-cells : tie.Need-mul-cells Inv-loop μ-loop
+mul-cells c =
+    let h = c .before .before .before in
+    omega (arith, can h (c .before .change2 .given .1) .1, recorded (recording (counting (copying h))) .left .ready .room)
+
+loop-again-3 : tie.Need-loop-again-3 Inv-loop μ-loop
+unfolding stepOf cellsOf
+loop-again-3 c = again (c .before .before .before .before) (c .before .before .change2 .given .1) _ _ (c .pass2 .ensures) refl
+
+lay-requires : tie.Need-lay-requires Inv-loop μ-loop
+lay-requires c κs = let h = c .before .before .before .before .before in let b = can (h .before .before) (h .change3 .given .1) in (b .0, b .1 .0, b .1 .1)
+
+loop-again-4 : tie.Need-loop-again-4 Inv-loop μ-loop
+unfolding stepOf cellsOf
+loop-again-4 c =
+    let h = c .before .before .before .before .before .before in
+    again (h .before .before) (h .change3 .given .1) _ _ (c .lay .ensures) (c .before .before .before .zero .ensures)
+
+loop-again-5 : tie.Need-loop-again-5 Inv-loop μ-loop
+unfolding stepOf cellsOf
+loop-again-5 c = again (c .before .before .before .before) (c .before .before .change4 .given .1) _ _ (c .enter .ensures) refl
+
+loop-again-6 : tie.Need-loop-again-6 Inv-loop μ-loop
+unfolding stepOf cellsOf
+loop-again-6 c = again (c .before .before .before .before) (c .before .before .change5 .given .1) _ _ (c .leave .ensures) refl
 
 returns-5 : tie.Need-returns-5 Inv-loop μ-loop
-returns-5 c = let g = c .before .before .before .before .before .before .before .before .args in let head = c .before .before .before .before .loop in left-done (g .t .now) (g .f) (g .list .now) (g .limit) (g .m) (g .cells .now) (head .m) (head .cells) (head .list) (head .held) (head .at) (head .steps) (head .inv .0) (omega (arith, c .before .if1 .left)) _ (c .wrote-to4 .ensures)
+returns-5 c = left-done (c .before .before .before .loop .inv .0) (omega (arith, c .before .if1 .left)) _ (c .wrote-to4 .ensures)
 
 pub write-steps-spec : {M : Type 1} → statement M
 write-steps-spec =
@@ -75,6 +234,8 @@ write-steps-spec =
     (tie.spec
     Inv-loop
     μ-loop
+    (λ c. search needs)
+    (λ c κs. search needs)
     loop-holds
     (λ c. search needs)
     (λ c κs. search needs)
@@ -82,34 +243,56 @@ write-steps-spec =
     (λ c. search needs)
     returns
     (λ c. search needs)
-    step-numbers-requires
-    (λ c. search needs)
-    (λ c. search needs)
+    recorded-move-requires
     (λ c κs. search needs)
     (λ c. search needs)
     (λ c. search needs)
+    (λ c κs. search needs)
+    (λ c. head (c .before .before .before .before .before) .loop .inv .1)
+    (λ c. head (c .before .before .before .before .before) .loop .inv .0 .size)
     returns-2
     (λ c. search needs)
     (λ c κs. search needs)
-    (λ c. search needs)
-    (λ c. search needs)
+    (λ c. head (recording (c .before .before)) .loop .inv .1)
+    (λ c. head (recording (c .before .before)) .loop .inv .0 .size)
     returns-3
     (λ c. search needs)
     copy-requires
     add-at
-    flag-of-requires
-    (λ c. search needs)
-    (λ c. search needs)
-    (λ c. search needs)
-    step-requires
     (λ c. search needs)
     stopped-requires
-    same-length-7
+    (λ c. head (recording (counting (c .before .before .before .before))) .loop .inv .1)
     same-length-8
     returns-4
+    (λ c κs. search needs)
     add-steps
-    loop-less
+    (λ c. search needs)
+    (λ c κs. can (c .before .before) (c .enum-told2 .given .1) .0)
+    (λ c. less (c .before .before .before))
     loop-again
+    (λ c. search needs)
+    (λ c κs. can (c .before .before .before) (c .before .change .given .1))
+    (λ c. less (c .before .before .before .before))
+    loop-again-2
+    (λ c. search needs)
+    mul-cells
+    (λ c. can (c .before .before .before) (c .before .change2 .given .1) .1)
+    (λ c κs. can (c .before .before .before) (c .before .change2 .given .1) .0)
+    (λ c. less (c .before .before .before .before))
+    loop-again-3
+    (λ c. search needs)
+    (λ c κs. can (c .before .before .before .before) (c .before .before .change3 .given .1) .1 .2)
+    lay-requires
+    (λ c. less (c .before .before .before .before .before .before .before .before))
+    loop-again-4
+    (λ c. search needs)
+    (λ c κs. can (c .before .before .before) (c .before .change4 .given .1) .1)
+    (λ c. less (c .before .before .before .before))
+    loop-again-5
+    (λ c. search needs)
+    (λ c κs. can (c .before .before .before) (c .before .change5 .given .1) .1 .0)
+    (λ c. less (c .before .before .before .before))
+    loop-again-6
     (λ c κs. search needs)
     (λ c. search needs)
     (λ c. search needs)

@@ -1,4 +1,4 @@
--- By the kind of the loop.
+-- The class of the start, or the start.
 -- Assumes nothing.
 use borrow.Author.Needs.{needs}
 use Rattle.machine.proofs.loops.iterator_number.Statement.{statement}

@@ -1,26 +1,26 @@
--- Both operands, then where it writes, then the write.
+-- By which row it is.
 -- Assumes nothing.
-use Rattle.machine.proofs.RowLaws.{unwritten, writes-none, writes-there}
+use Rattle.evaluators.specs.CodeAnswers.{arraysOf}
+use Rattle.machine.proofs.WriteLaws.{written-40, written-34}
 use borrow.Author.Needs.{needs}
 use Rattle.machine.proofs.writes.written.Statement.{statement}
 use Rattle.machine.proofs.writes.written.Tie as tie
 
 returns : tie.Need-returns
-returns c = (writes-none _ _ _ _ _ _ _ _ (c .before .before .pointer-and-uint .ensures) (c .before .match .keys2) (c .outcome-of .ensures), unwritten _ _)
+returns c =
+    let g = c .before .before .before .before .args in
+    let rs = arraysOf (g .count) (g .fs .now) (g .ls .now) (g .hs .now) in
+    let t = c .before .before .pointed in
+    written-40 (g .own .now) (g .list .now) (g .room) (t .result) (g .place) (g .v) (g .at) rs (g .to) (t .ensures) (g .tracking)
+    (c .before .if1 .taken) (c .reduced-gets .ensures)
 
 returns-2 : tie.Need-returns-2
-returns-2 c = (writes-there _ _ _ _ _ _ _ _ (c .before .before .before .before .before .before .before .before .pointer-and-uint .ensures) (c .before .before .before .before .before .before .x .given .1) _ (c .before .before .before .before .aimed-by .ensures) (c .before .before .put-cell .ensures .0), c .before .before .put-cell .ensures .1)
+returns-2 c =
+    let g = c .before .before .before .before .args in
+    let rs = arraysOf (g .count) (g .fs .now) (g .ls .now) (g .hs .now) in
+    let t = c .before .before .pointed in
+    written-34 (g .own .now) (g .list .now) (g .room) (t .result) (g .place) (g .v) (g .at) rs (g .to) (t .ensures) (g .tracking)
+    (c .before .if1 .left) (c .target-gets .ensures)
 
 pub written-spec : {M : Type 1} → statement M
-written-spec =
-    tie.close
-    (tie.spec
-    (λ c κs. search needs)
-    (λ c. search needs)
-    (λ c κs. search needs)
-    (λ c. search needs)
-    returns
-    (λ c κs. search needs)
-    (λ c κs. search needs)
-    (λ c. search needs)
-    returns-2)
+written-spec = tie.close (tie.spec (λ c κs. search needs) (λ c κs. search needs) returns (λ c κs. search needs) returns-2)

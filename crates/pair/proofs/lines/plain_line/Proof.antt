@@ -17,7 +17,8 @@ line-of-requires c κs = search needs
 
 returns : tie.Need-returns
 returns c = let g = c .before .before .before .before .before .before .args in
-    plain-said (g .t .now) _ _ (g .limit) (c .before .before .before .run-plain .result) (c .line-of .result) (c .before .before .before .before .before .before .pre) refl (c .before .before .before .run-plain .ensures) (c .line-of .ensures)
+    plain-said (g .t .now) _ _ (g .limit) (c .before .before .before .run-plain .result) (c .line-of .result) (c .before .before .before .before .before
+        .before .pre) refl (c .before .before .before .run-plain .ensures) (c .line-of .ensures)
 
 pub plain-line-spec : {M : Type 1} → statement M
 plain-line-spec =

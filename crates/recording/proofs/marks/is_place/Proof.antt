@@ -2,6 +2,7 @@
 -- Assumes nothing.
 use borrow.Author.Tests.{eq-eqb, ne-eqb}
 use Rattle.model.specs.Class.{tracked}
+use borrow.Author.Needs.{needs}
 use Rattle.recording.proofs.marks.is_place.Statement.{statement}
 use Rattle.recording.proofs.marks.is_place.Tie as tie
 
@@ -18,4 +19,5 @@ unfolding tracked
 returns-3 c = rw (ne-eqb _ _ (c .before .before .if1 .left), ne-eqb _ _ (c .if2 .left))
 
 pub is-place-spec : {M : Type 1} → statement M
-is-place-spec = tie.close (tie.spec returns returns-2 returns-3)
+is-place-spec =
+    tie.close (tie.spec (λ c. search needs) returns (λ c. search needs) returns-2 returns-3)

@@ -27,7 +27,9 @@ enum-told-4 : tie.Need-enum-told-4
 enum-told-4 c = search needs
 
 returns-2 : tie.Need-returns-2
-returns-2 c = run-places _ _ _ _ (c .before .before .before .before .before .check-table .ensures) (c .before .before .before .enum-told .given .1) (c .before .before .places-for .ensures) (c .enum-told4 .given .1)
+returns-2 c =
+    run-places _ _ _ _ (c .before .before .before .before .before .check-table .ensures) (c .before .before .before .enum-told .given .1) (c .before .before
+        .places-for .ensures) (c .enum-told4 .given .1)
 
 cells-of-requires : tie.Need-cells-of-requires
 cells-of-requires c κs = search needs
@@ -36,7 +38,10 @@ check-size-requires : tie.Need-check-size-requires
 check-size-requires c κs = search needs
 
 returns-3 : tie.Need-returns-3
-returns-3 c = run-size _ _ _ _ (c .before .before .before .before .before .before .before .check-table .ensures) (c .before .before .before .before .before .enum-told .given .1) (c .before .before .before .before .places-for .ensures) (c .before .before .enum-told3 .given .1) (c .before .cells-of .ensures) (c .check-size .ensures)
+returns-3 c =
+    run-size _ _ _ _ (c .before .before .before .before .before .before .before .check-table .ensures) (c .before .before .before .before .before .enum-told
+        .given .1) (c .before .before .before .before .places-for .ensures) (c .before .before .enum-told3 .given .1) (c .before .cells-of .ensures) (c
+        .check-size .ensures)
 
 pub check-run-spec : {M : Type 1} → statement M
 check-run-spec =

@@ -23,22 +23,37 @@ same-length : tie.Need-same-length
 same-length c = search needs
 
 returns : tie.Need-returns
-returns c = let g = c .before .before .before .before .before .before .before .before .args in continued-refused (g .t .now) (g .classes) (g .c1) (g .c2) (g .list .now) (g .cells .now) (g .limit) _ (c .before .before .before .check-run .ensures) (c .refused .result) (g .m) (c .before .enum-told2 .given .1) (c .refused .ensures)
+returns c =
+    let g = c .before .before .before .before .before .before .before .before .args in
+    continued-refused (g .t .now) (g .classes) (g .c1) (g .c2) (g .list .now) (g .cells .now) (g .limit) _ (c .before .before .before .check-run .ensures) (c
+        .refused .result) (g .m) (c .before .enum-told2 .given .1) (c .refused .ensures)
 
 frame-of-requires : tie.Need-frame-of-requires
 frame-of-requires c κs = search needs
 
 record-fits-requires : tie.Need-record-fits-requires
-record-fits-requires c κs = let g = c .before .before .before .before .before .before .before .before .before .args in laid (g .t .now) _ (g .cells .now) (lends (g .t .now) (g .cells .now) (g .classes) (g .c1) (g .c2) (c .before .before .before .before .check-run .ensures) (c .before .before .enum-told .given .1) (c .before .frame-of .ensures))
+record-fits-requires c κs =
+    let g = c .before .before .before .before .before .before .before .before .before .args in
+    laid (g .t .now) _ (g .cells .now) (lends (g .t .now) (g .cells .now) (g .classes) (g .c1) (g .c2) (c .before .before .before .before .check-run
+        .ensures) (c .before .before .enum-told .given .1) (c .before .frame-of .ensures))
 
 run-from-requires : tie.Need-run-from-requires
-run-from-requires c κs = let g = c .before .before .before .before .before .before .before .before .before .before .before .before .args in continues (g .t .now) (g .cells .now) (g .classes) (g .c1) (g .c2) (c .before .before .before .before .before .before .before .check-run .ensures) (c .before .before .before .before .before .enum-told .given .1) (c .before .before .before .before .frame-of .ensures) (g .m) (sym (c .before .before .record-fits .ensures) ∙ c .before .if1 .taken)
+run-from-requires c κs =
+    let g = c .before .before .before .before .before .before .before .before .before .before .before .before .args in
+    continues (g .t .now) (g .cells .now) (g .classes) (g .c1) (g .c2) (c .before .before .before .before .before .before .before .check-run .ensures) (c
+        .before .before .before .before .before .enum-told .given .1) (c .before .before .before .before .frame-of .ensures) (g .m) (sym (c .before .before
+        .record-fits .ensures) ∙ c .before .if1 .taken)
 
 same-length-2 : tie.Need-same-length-2
 same-length-2 c = search needs
 
 returns-2 : tie.Need-returns-2
-returns-2 c = let g = c .before .before .before .before .before .before .before .before .before .before .before .before .before .before .before .args in continued-ran (g .t .now) (g .classes) (g .c1) (g .c2) (g .list .now) (g .cells .now) (g .limit) _ (c .before .before .before .before .before .before .before .before .before .before .check-run .ensures) (c .before .before .before .before .before .before .before .before .enum-told .given .1) _ (c .before .before .before .before .before .before .before .frame-of .ensures) _ (c .before .before .run-from .result) _ refl refl (g .m) (sym (c .before .before .before .before .before .record-fits .ensures) ∙ c .before .before .before .before .if1 .taken) (c .before .before .run-from .ensures)
+returns-2 c =
+    let g = c .before .before .before .before .before .before .before .before .before .before .before .before .before .before .before .args in
+    continued-ran (g .t .now) (g .classes) (g .c1) (g .c2) (g .list .now) (g .cells .now) (g .limit) _ (c .before .before .before .before .before .before
+        .before .before .before .before .check-run .ensures) (c .before .before .before .before .before .before .before .before .enum-told .given .1) _ (c
+        .before .before .before .before .before .before .before .frame-of .ensures) _ (c .before .before .run-from .result) _ refl refl (g .m) (sym (c
+        .before .before .before .before .before .record-fits .ensures) ∙ c .before .before .before .before .if1 .taken) (c .before .before .run-from .ensures)
 
 refused-requires-2 : tie.Need-refused-requires-2
 refused-requires-2 c κs = search needs
@@ -47,7 +62,11 @@ same-length-3 : tie.Need-same-length-3
 same-length-3 c = search needs
 
 returns-3 : tie.Need-returns-3
-returns-3 c = let g = c .before .before .before .before .before .before .before .before .before .before .before .before .args in continued-broken (g .t .now) (g .classes) (g .c1) (g .c2) (g .list .now) (g .cells .now) (g .limit) _ (c .before .before .before .before .before .before .before .check-run .ensures) (c .before .before .before .before .before .enum-told .given .1) _ (c .before .before .before .before .frame-of .ensures) (g .m) (sym (c .before .before .record-fits .ensures) ∙ c .before .if1 .left) (c .refused2 .result) (c .refused2 .ensures)
+returns-3 c =
+    let g = c .before .before .before .before .before .before .before .before .before .before .before .before .args in
+    continued-broken (g .t .now) (g .classes) (g .c1) (g .c2) (g .list .now) (g .cells .now) (g .limit) _ (c .before .before .before .before .before .before
+        .before .check-run .ensures) (c .before .before .before .before .before .enum-told .given .1) _ (c .before .before .before .before .frame-of
+        .ensures) (g .m) (sym (c .before .before .record-fits .ensures) ∙ c .before .if1 .left) (c .refused2 .result) (c .refused2 .ensures)
 
 pub continued-run-spec : {M : Type 1} → statement M
 continued-run-spec =

@@ -9,16 +9,25 @@ zero-all-requires : tie.Need-zero-all-requires
 zero-all-requires c κs = search needs
 
 fresh-requires : tie.Need-fresh-requires
-fresh-requires c κs = let g = c .before .before .before .before .before .before .before .args in few-decls (g .t .now) (g .f) (g .cells .now) (c .before .before .before .before .before .before .before .pre)
+fresh-requires c κs =
+    let g = c .before .before .before .before .before .before .before .args in
+    few-decls (g .t .now) (g .f) (g .cells .now) (c .before .before .before .before .before .before .before .pre)
 
 run-from-requires : tie.Need-run-from-requires
-run-from-requires c κs = let g = c .before .before .before .before .before .before .before .before .before .args in ready-fresh (g .t .now) (g .f) (g .cells .now) (c .before .before .before .before .before .before .before .before .before .pre) _ _ (c .before .fresh .ensures .0) (c .before .fresh .ensures .1) (c .before .fresh .ensures .2) (c .before .fresh .ensures .3) (c .before .before .before .before .zero-all .ensures)
+run-from-requires c κs =
+    let g = c .before .before .before .before .before .before .before .before .before .args in
+    ready-fresh (g .t .now) (g .f) (g .cells .now) (c .before .before .before .before .before .before .before .before .before .pre) _ _ (c .before .fresh
+        .ensures) (c .before .before .before .before .zero-all .ensures)
 
 same-length : tie.Need-same-length
 same-length c = search needs
 
 returns : tie.Need-returns
-returns c = let g = c .before .before .before .before .before .before .before .before .before .before .before .before .args in reports-fresh (g .t .now) (g .f) (g .cells .now) (c .before .before .before .before .before .before .before .before .before .before .before .before .pre) _ _ (c .before .before .before .before .fresh .ensures .0) (c .before .before .before .before .fresh .ensures .1) (c .before .before .before .before .fresh .ensures .2) (c .before .before .before .before .fresh .ensures .3) (c .before .before .before .before .before .before .before .zero-all .ensures) (g .limit) (g .list .now) _ _ (c .before .before .run-from .ensures)
+returns c =
+    let g = c .before .before .before .before .before .before .before .before .before .before .before .before .args in
+    reports-fresh (g .t .now) (g .f) (g .cells .now) (c .before .before .before .before .before .before .before .before .before .before .before .before .pre)
+        _ _ (c .before .before .before .before .fresh .ensures) (c .before .before .before .before .before .before .before .zero-all .ensures) (g .limit) (g
+        .list .now) _ _ (c .before .before .run-from .ensures)
 
 pub start-spec : {M : Type 1} → statement M
 start-spec =

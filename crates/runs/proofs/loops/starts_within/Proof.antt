@@ -20,10 +20,16 @@ loop-holds : tie.Need-loop-holds Inv-loop μ-loop
 loop-holds c = refl
 
 returns : tie.Need-returns Inv-loop μ-loop
-returns c = let l = c .before .before .before .before .before .before .before .before .before .before .loop in starts-off _ _ _ (l .n) (l .n - 1) (omega arith) (c .before .word-or-zero2 .ensures) (c .before .before .before .before .before .word-or-zero .ensures) (c .if1 .taken) ∙ l .inv
+returns c =
+    let l = c .before .before .before .before .before .before .before .before .before .before .loop in
+    starts-off _ _ _ (l .n) (l .n - 1) (omega arith) (c .before .word-or-zero2 .ensures) (c .before .before .before .before .before .word-or-zero .ensures)
+        (c .if1 .taken) ∙ l .inv
 
 loop-again : tie.Need-loop-again Inv-loop μ-loop
-loop-again c = let l = c .before .before .before .before .before .before .before .before .before .before .loop in starts-on _ _ _ (l .n) (l .n - 1) (omega arith) (c .before .word-or-zero2 .ensures) (c .before .before .before .before .before .word-or-zero .ensures) (omega (arith, c .if1 .left)) ∙ l .inv
+loop-again c =
+    let l = c .before .before .before .before .before .before .before .before .before .before .loop in
+    starts-on _ _ _ (l .n) (l .n - 1) (omega arith) (c .before .word-or-zero2 .ensures) (c .before .before .before .before .before .word-or-zero .ensures)
+        (omega (arith, c .if1 .left)) ∙ l .inv
 
 returns-2 : tie.Need-returns-2 Inv-loop μ-loop
 returns-2 c = let l = c .before .loop in starts-none _ _ _ (l .n) (omega arith) ∙ l .inv

@@ -18,16 +18,28 @@ returns : tie.Need-returns Inv-loop μ-loop
 returns c = let g = c .before .before .before .args in laying-many (g .t .now) (g .cells .now) (g .f) (g .t4) (c .if1 .taken)
 
 loop-holds : tie.Need-loop-holds Inv-loop μ-loop
-loop-holds c = let g = c .before .before .before .args in (omega arith, refl, omega arith, omega arith, laying-all (g .t .now) (g .cells .now) (g .f) (g .t4) (omega (arith, c .if1 .left)))
+loop-holds c =
+    let g = c .before .before .before .args in
+    (omega arith, refl, omega arith, omega arith, laying-all (g .t .now) (g .cells .now) (g .f) (g .t4) (omega (arith, c .if1 .left)))
 
 loop-again : tie.Need-loop-again Inv-loop μ-loop
-loop-again c = let g = c .before .before .before .before .before .before .before .before .before .before .before .args in let l = c .before .before .before .before .before .before .before .loop in (omega arith, l .inv .1, l .inv .2, omega arith, laying-next (g .t .now) (g .cells .now) (g .f) (g .t4) (l .from) (l .i) (l .inv .4) (omega arith) (c .size-for .ensures) (sym (c .before .before .before .array-fits .ensures) ∙ c .before .before .if2 .taken))
+loop-again c =
+    let g = c .before .before .before .before .before .before .before .before .before .before .before .args in
+    let l = c .before .before .before .before .before .before .before .loop in
+    (omega arith, l .inv .1, l .inv .2, omega arith, laying-next (g .t .now) (g .cells .now) (g .f) (g .t4) (l .from) (l .i) (l .inv .4) (omega arith) (c
+        .size-for .ensures) (sym (c .before .before .before .array-fits .ensures) ∙ c .before .before .if2 .taken))
 
 returns-2 : tie.Need-returns-2 Inv-loop μ-loop
-returns-2 c = let g = c .before .before .before .before .before .before .before .before .before .args in let l = c .before .before .before .before .before .loop in laying-off (g .t .now) (g .cells .now) (g .f) (g .t4) (l .from) (l .i) (l .inv .4) (omega arith) (sym (c .before .array-fits .ensures) ∙ c .if2 .left)
+returns-2 c =
+    let g = c .before .before .before .before .before .before .before .before .before .args in
+    let l = c .before .before .before .before .before .loop in
+    laying-off (g .t .now) (g .cells .now) (g .f) (g .t4) (l .from) (l .i) (l .inv .4) (omega arith) (sym (c .before .array-fits .ensures) ∙ c .if2 .left)
 
 returns-3 : tie.Need-returns-3 Inv-loop μ-loop
-returns-3 c = let g = c .before .before .before .before .before .args in let l = c .before .loop in laying-done (g .t .now) (g .cells .now) (g .f) (g .t4) (l .from) (l .i) (l .inv .4) (omega arith)
+returns-3 c =
+    let g = c .before .before .before .before .before .args in
+    let l = c .before .loop in
+    laying-done (g .t .now) (g .cells .now) (g .f) (g .t4) (l .from) (l .i) (l .inv .4) (omega arith)
 
 pub arrays-fit-spec : {M : Type 1} → statement M
 arrays-fit-spec =

@@ -19,25 +19,40 @@ loops-around-requires : tie.Need-loops-around-requires
 loops-around-requires c κs = search needs
 
 returns-2 : tie.Need-returns-2
-returns-2 c = let g = c .before .before .before .before .before .before .before .args in fits-around (g .t .now) (g .cells .now) (g .f) (g .m) (omega (arith, c .before .before .if1 .left)) (c .before .loops-around .ensures) (not-true _ (c .if2 .taken))
+returns-2 c =
+    let g = c .before .before .before .before .before .before .before .args in
+    fits-around (g .t .now) (g .cells .now) (g .f) (g .m) (omega (arith, c .before .before .if1 .left)) (c .before .loops-around .ensures) (not-true _ (c
+        .if2 .taken))
 
 starts-within-requires : tie.Need-starts-within-requires
 starts-within-requires c κs = search needs
 
 returns-3 : tie.Need-returns-3
-returns-3 c = let g = c .before .before .before .before .before .before .before .before .before .args in fits-starts (g .t .now) (g .cells .now) (g .f) (g .m) (omega (arith, c .before .before .before .before .if1 .left)) (c .before .before .before .loops-around .ensures) (not-false _ (c .before .before .if2 .left)) (c .before .starts-within .ensures) (not-true _ (c .if3 .taken))
+returns-3 c =
+    let g = c .before .before .before .before .before .before .before .before .before .args in
+    fits-starts (g .t .now) (g .cells .now) (g .f) (g .m) (omega (arith, c .before .before .before .before .if1 .left)) (c .before .before .before
+        .loops-around .ensures) (not-false _ (c .before .before .if2 .left)) (c .before .starts-within .ensures) (not-true _ (c .if3 .taken))
 
 variables-fit-requires : tie.Need-variables-fit-requires
 variables-fit-requires c κs = search needs
 
 returns-4 : tie.Need-returns-4
-returns-4 c = let g = c .before .before .before .before .before .before .before .before .before .before .before .args in fits-variables (g .t .now) (g .cells .now) (g .f) (g .m) (omega (arith, c .before .before .before .before .before .before .if1 .left)) (c .before .before .before .before .before .loops-around .ensures) (not-false _ (c .before .before .before .before .if2 .left)) (c .before .before .before .starts-within .ensures) (not-false _ (c .before .before .if3 .left)) (c .before .variables-fit .ensures) (not-true _ (c .if4 .taken))
+returns-4 c =
+    let g = c .before .before .before .before .before .before .before .before .before .before .before .args in
+    fits-variables (g .t .now) (g .cells .now) (g .f) (g .m) (omega (arith, c .before .before .before .before .before .before .if1 .left)) (c .before .before
+        .before .before .before .loops-around .ensures) (not-false _ (c .before .before .before .before .if2 .left)) (c .before .before .before
+        .starts-within .ensures) (not-false _ (c .before .before .if3 .left)) (c .before .variables-fit .ensures) (not-true _ (c .if4 .taken))
 
 arrays-fit-requires : tie.Need-arrays-fit-requires
 arrays-fit-requires c κs = search needs
 
 returns-5 : tie.Need-returns-5
-returns-5 c = let g = c .before .before .before .before .before .before .before .before .before .before .before .before .args in fits-arrays (g .t .now) (g .cells .now) (g .f) (g .m) (omega (arith, c .before .before .before .before .before .before .before .if1 .left)) (c .before .before .before .before .before .before .loops-around .ensures) (not-false _ (c .before .before .before .before .before .if2 .left)) (c .before .before .before .before .starts-within .ensures) (not-false _ (c .before .before .before .if3 .left)) (c .before .before .variables-fit .ensures) (not-false _ (c .before .if4 .left)) (c .arrays-fit .ensures)
+returns-5 c =
+    let g = c .before .before .before .before .before .before .before .before .before .before .before .before .args in
+    fits-arrays (g .t .now) (g .cells .now) (g .f) (g .m) (omega (arith, c .before .before .before .before .before .before .before .if1 .left)) (c .before
+        .before .before .before .before .before .loops-around .ensures) (not-false _ (c .before .before .before .before .before .if2 .left)) (c .before
+        .before .before .before .starts-within .ensures) (not-false _ (c .before .before .before .if3 .left)) (c .before .before .variables-fit .ensures)
+        (not-false _ (c .before .if4 .left)) (c .arrays-fit .ensures)
 
 pub record-fits-spec : {M : Type 1} → statement M
 record-fits-spec =

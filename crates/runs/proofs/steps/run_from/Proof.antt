@@ -15,7 +15,10 @@ same-length : tie.Need-same-length
 same-length c = search needs
 
 returns : tie.Need-returns
-returns c = let g = c .before .before .before .before .before .before .before .before .before .args in counted (g .t .now) (g .f) (g .list .now) (c .before .before .before .before .run-steps .result) _ (c .before .before .before .before .run-steps .ensures) (c .before2 .result) (c .before2 .ensures)
+returns c =
+    let g = c .before .before .before .before .before .before .before .before .before .args in
+    counted (g .t .now) (g .f) (g .list .now) (c .before .before .before .before .run-steps .result) _ (c .before .before .before .before .run-steps
+        .ensures) (c .before2 .result) (c .before2 .ensures)
 
 pub run-from-spec : {M : Type 1} → statement M
 run-from-spec = tie.close (tie.spec run-steps-requires before-requires same-length returns)
