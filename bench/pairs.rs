@@ -219,25 +219,31 @@ impl Writer<'_> {
         Ok(())
     }
 
-    fn run(mut self, limit: u32) -> Vec<u32> {
+    /// The choices, and the plain run's line where the writer came to the end of the rows or to the limit.
+    fn run(mut self, limit: u32) -> (Vec<u32>, Option<Line>) {
         let mut steps = 0;
-        while self.record.row < self.table.rows.len() && steps < limit {
+        let mut end = End::Done;
+        while self.record.row < self.table.rows.len() {
+            if steps == limit {
+                end = End::Steps;
+                break;
+            }
             let kept = self.list.len();
             match self.step() {
                 Ok(()) => steps += 1,
-                Err(Stop::Ended) => break,
+                Err(Stop::Ended) => return (self.list, None),
                 Err(Stop::Full) => {
                     self.list.truncate(kept);
-                    break;
+                    return (self.list, None);
                 }
             }
         }
-        self.list
+        (self.list, Some(Line { end, row: self.record.row, steps, used: 0 }))
     }
 }
 
-/// The choices of a fresh run, for a reduced table.
-fn write_choices(table: &Table, pair: Pair, limit: u32) -> Vec<u32> {
+/// The choices of a fresh run, for a reduced table, and its line.
+fn write_choices(table: &Table, pair: Pair, limit: u32) -> (Vec<u32>, Option<Line>) {
     let record = fresh(table, false, pair);
     Writer { table, pair, record, cells: [0; PLAIN_CELLS], list: Vec::with_capacity(LIST) }.run(limit)
 }
@@ -271,8 +277,8 @@ fn pair_run(input: &[u8]) -> Result<(Line, Line), Refusal> {
     let mut reduced = [0; TABLE_WORDS];
     reduce_table(&words[..end], c1, c2, &mut reduced[..end])?;
     let (table, reduced, pair) = (decode(&words[..end]), decode(&reduced[..end]), Pair { c1, c2 });
-    let list = write_choices(&reduced, pair, limit);
-    let plain = line(&table, pair, &mut [0; PLAIN_CELLS], None, limit);
+    let (list, plain) = write_choices(&reduced, pair, limit);
+    let plain = plain.unwrap_or_else(|| line(&table, pair, &mut [0; PLAIN_CELLS], None, limit));
     Ok((plain, line(&reduced, pair, &mut [0; REDUCED_CELLS], Some(&list), limit)))
 }
 
