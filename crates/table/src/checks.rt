@@ -20,7 +20,8 @@ ghost use Rattle.table.specs.Code.{countsOf, tableBy, firstOf, InSorts, 
 
 // Whether a line breaks one of 5 to 8.
 fn line_breaks(check: u32, words: &[u32], counts: Counts, reduced: bool, line: usize) -> bool
-    requires { ⌜ (5 ≤ check) × (check ≤ 8) × (counts .decls ≤ length (now words) / 4) × (counts .nodes ≤ length (now words) / 4) × (4 * line + 3 < length (now words)) ⌝ }
+    requires { ⌜ (5 ≤ check) × (check ≤ 8) × (counts .decls ≤ length (now words) / 4) × (counts .nodes ≤ length (now words) / 4)
+        × (4 * line + 3 < length (now words)) ⌝ }
     requires { ⌜ (check ≡ 8 → InSorts (tableBy (now words) counts)) ⌝ }
     ensures { λ r. ⌜ r ≡ breaks check (machineOf reduced) (tableBy (now (words .entry)) counts) line ⌝ }
 {

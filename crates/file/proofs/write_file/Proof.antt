@@ -13,4 +13,5 @@ returns : tie.Need-returns
 returns c = by-table _ _ (c .before .before .before .check-table .ensures) (c .before .v .given .1)
 
 pub write-file-spec : {M : Type 1} → statement M
-write-file-spec = tie.close (tie.spec (λ c κs. search needs) (λ c. search needs) (λ c. search needs) write-passing-requires returns (λ c. search needs) (λ c. search needs))
+write-file-spec =
+    tie.close (tie.spec (λ c κs. search needs) (λ c. search needs) (λ c. search needs) write-passing-requires returns (λ c. search needs) (λ c. search needs))

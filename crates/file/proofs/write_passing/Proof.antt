@@ -14,8 +14,10 @@ write-blocks-requires c κs = (passing-short _ (c .before .before .before .befor
 
 returns-2 : tie.Need-returns-2
 returns-2 c =
-    let a = c .before .before .before .before .before .before .before .args in
-    done (a .words .now) (a .out .now) (c .before .before .before .before .before .before .before .pre) (c .before .before .before .before .if1 .left) _ _ (c .before .before .write-blocks .ensures .0) (c .before .before .write-blocks .ensures .1)
+    let start = c .before .before .before .before .before .before .before in
+    let sized = c .before .before .before .before .if1 .left in
+    let written = c .before .before .write-blocks .ensures in
+    done (start .args .words .now) (start .args .out .now) (start .pre) sized _ _ (written .0) (written .1)
 
 pub write-passing-spec : {M : Type 1} → statement M
 write-passing-spec = tie.close (tie.spec returns write-blocks-requires (λ c. search needs) returns-2)

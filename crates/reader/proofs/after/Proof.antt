@@ -8,10 +8,14 @@ use Rattle.reader.proofs.after.Statement.{statement}
 use Rattle.reader.proofs.after.Tie as tie
 
 returns : tie.Need-returns
-returns c = ap (λ (x : Choice). cursorAfter x (c .before .before .before .before .before .args .at)) (sym (c .before .next .given .1) ∙ c .before .before .before .choice-at .ensures)
+returns c =
+    let called = c .before .before .before in
+    ap (λ (x : Choice). cursorAfter x (called .before .before .args .at)) (sym (c .before .next .given .1) ∙ called .choice-at .ensures)
 
 returns-2 : tie.Need-returns-2
-returns-2 c = ap (λ (x : Choice). cursorAfter x (c .before .before .before .before .args .at)) (sym (c .enum-told .given .1) ∙ c .before .before .choice-at .ensures)
+returns-2 c =
+    let called = c .before .before in
+    ap (λ (x : Choice). cursorAfter x (called .before .before .args .at)) (sym (c .enum-told .given .1) ∙ called .choice-at .ensures)
 
 pub after-spec : {M : Type 1} → statement M
 after-spec = tie.close (tie.spec (λ c κs. search needs) (λ c. search needs) (λ c. search needs) returns returns-2)

@@ -8,21 +8,26 @@ use Rattle.reduction.proofs.reduce_table.Tie as tie
 returns : tie.Need-returns
 returns c = by-table _ _ _ _ (c .before .before .check-table .ensures) (c .enum-told2 .given .1)
 
+-- `told` is where the table's answer is told, and `paired` where the pair's is: each stands two places after its call
 returns-2 : tie.Need-returns-2
 returns-2 c =
-    by-pair _ _ _ (c .before .before .before .before .before .check-table .ensures) (c .before .before .before .enum-told .given .1)
-    _ (c .before .before .check-pair .ensures) (c .enum-told4 .given .1)
+    let told = c .before .before .before in
+    by-pair _ _ _ (told .before .before .check-table .ensures) (told .enum-told .given .1) _ (c .before .before .check-pair .ensures) (c .enum-told4 .given .1)
 
 returns-3 : tie.Need-returns-3
 returns-3 c =
-    by-size _ _ _ (c .before .before .before .before .before .before .check-table .ensures) (c .before .before .before .before .enum-told .given .1)
-    (c .before .before .before .check-pair .ensures) (c .before .enum-told3 .given .1) (c .if1 .taken)
+    let paired = c .before in
+    let told = paired .before .before .before in
+    by-size _ _ _ (told .before .before .check-table .ensures) (told .enum-told .given .1)
+    (paired .before .before .check-pair .ensures) (paired .enum-told3 .given .1) (c .if1 .taken)
 
 returns-4 : tie.Need-returns-4
 returns-4 c =
-    reduced _ _ _ (c .before .before .before .before .before .before .before .before .before .before .check-table .ensures) (c .before .before .before .before .before .before .before .before .enum-told .given .1)
-    (c .before .before .before .before .before .before .before .check-pair .ensures) (c .before .before .before .before .before .enum-told3 .given .1)
-    (c .before .before .before .before .if1 .left) _ (c .before .before .reduce-words .ensures)
+    let sized = c .before .before .before .before in
+    let paired = sized .before in
+    let told = paired .before .before .before in
+    reduced _ _ _ (told .before .before .check-table .ensures) (told .enum-told .given .1)
+    (paired .before .before .check-pair .ensures) (paired .enum-told3 .given .1) (sized .if1 .left) _ (c .before .before .reduce-words .ensures)
 
 pub reduce-table-spec : {M : Type 1} → statement M
 reduce-table-spec =

@@ -12,7 +12,8 @@ use Rattle.table.proofs.checks.first_line.Statement.{statement}
 use Rattle.table.proofs.checks.first_line.Tie as tie
 
 abbrev Inv-loop : tie.InvT-loop
-Inv-loop check words counts reduced lines i₀ i = (i ≤ lines) × (firstOf check reduced words counts ≡ first (breaks check (machineOf reduced) (tableBy words counts)) i (lines - i))
+Inv-loop check words counts reduced lines i₀ i =
+    (i ≤ lines) × (firstOf check reduced words counts ≡ first (breaks check (machineOf reduced) (tableBy words counts)) i (lines - i))
 
 abbrev μ-loop : tie.MeasureT-loop
 μ-loop check words counts reduced lines i₀ i = lines - i

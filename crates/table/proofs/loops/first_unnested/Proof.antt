@@ -33,21 +33,23 @@ returns c =
     let start = c .before .before .before .before .before .before .before .before .before in
     let t = tableBy (start .args .words .now) (start .args .counts) in
     let at-head = c .before .before .before .before .before .before .before .loop in
-    let call = c .before .row-breaks in
-    let breaks = row-by t (at-head .row) (c .before .before .nest-of .result) (at-head .count) (c .before .before .nest-of .ensures) (at-head .inv .1) in
-    sym (at-head .inv .3 ∙ row-hit t (start .pre) (at-head .row) (c .before .before .before .before .before .if1 .taken) (breaks ∙ sym (call .ensures) ∙ c .if2 .taken))
+    let inside = c .before .before .before .before .before .if1 .taken in
+    let nested = c .before .before .nest-of in
+    let breaks = row-by t (at-head .row) (nested .result) (at-head .count) (nested .ensures) (at-head .inv .1) in
+    sym (at-head .inv .3 ∙ row-hit t (start .pre) (at-head .row) inside (breaks ∙ sym (c .before .row-breaks .ensures) ∙ c .if2 .taken))
 
 loop-again : tie.Need-loop-again Inv-loop μ-loop
 loop-again c =
     let start = c .before .before .before .before .before .before .before .before .before .before in
     let t = tableBy (start .args .words .now) (start .args .counts) in
     let at-head = c .before .before .before .before .before .before .before .before .loop in
-    let call = c .before .before .row-breaks in
-    let breaks = row-by t (at-head .row) (c .before .before .before .nest-of .result) (at-head .count) (c .before .before .before .nest-of .ensures) (at-head .inv .1) in (
+    let inside = c .before .before .before .before .before .before .if1 .taken in
+    let nested = c .before .before .before .nest-of in
+    let breaks = row-by t (at-head .row) (nested .result) (at-head .count) (nested .ensures) (at-head .inv .1) in (
       search needs,
-      rw (c .open-after .ensures .0, c .before .before .before .nest-of .ensures, at-head .inv .1) (sym (open-more t (at-head .row))),
+      rw (c .open-after .ensures .0, nested .ensures, at-head .inv .1) (sym (open-more t (at-head .row))),
       omega (arith, c .open-after .ensures .1),
-      at-head .inv .3 ∙ row-miss t (start .pre) (at-head .row) (c .before .before .before .before .before .before .if1 .taken) (breaks ∙ sym (call .ensures) ∙ c .before .if2 .left),
+      at-head .inv .3 ∙ row-miss t (start .pre) (at-head .row) inside (breaks ∙ sym (c .before .before .row-breaks .ensures) ∙ c .before .if2 .left),
     )
 
 returns-2 : tie.Need-returns-2 Inv-loop μ-loop

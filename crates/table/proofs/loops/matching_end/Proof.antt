@@ -11,7 +11,8 @@ use Rattle.table.proofs.loops.matching_end.Statement.{statement}
 use Rattle.table.proofs.loops.matching_end.Tie as tie
 
 abbrev Inv-scan : tie.InvT-scan
-Inv-scan words counts row inner₀ i₀ inner i = (i ≤ counts .rows) × (inner ≤ i) × (matchingEnd (tableBy words counts) row ≡ scanFrom (tableBy words counts) i inner)
+Inv-scan words counts row inner₀ i₀ inner i =
+    let t = tableBy words counts in (i ≤ counts .rows) × (inner ≤ i) × (matchingEnd t row ≡ scanFrom t i inner)
 
 abbrev μ-scan : tie.MeasureT-scan
 μ-scan words counts row inner₀ i₀ inner i = counts .rows - i
@@ -24,11 +25,13 @@ scan-again : tie.Need-scan-again Inv-scan μ-scan
 scan-again c =
     let start = c .before .before .before .before .before .before .before .before .before in
     let t = tableBy (start .args .words .now) (start .args .counts) in
-    let at-head = c .before .before .before .before .before .before .before .scan in (
+    let at-head = c .before .before .before .before .before .before .before .scan in
+    let inside = c .before .before .before .before .before .if1 .left in
+    let nested = c .before .before .nest-of in (
       search needs,
       omega (arith, c .open-after .ensures .1),
       at-head .inv .2
-          ∙ scan-next t (at-head .i) (at-head .inner) (c .before .before .nest-of .result) (c .before .before .before .before .before .if1 .left) (c .before .before .nest-of .ensures) (c .before .if2 .left)
+          ∙ scan-next t (at-head .i) (at-head .inner) (nested .result) inside (nested .ensures) (c .before .if2 .left)
           ∙ sym (ap (scanFrom t (at-head .i + 1)) (c .open-after .ensures .0)),
     )
 
@@ -43,7 +46,9 @@ returns-2 c =
     let start = c .before .before .before .before .before .before .before .before in
     let t = tableBy (start .args .words .now) (start .args .counts) in
     let at-head = c .before .before .before .before .before .before .scan in
-    sym (at-head .inv .2 ∙ scan-hit t (at-head .i) (at-head .inner) (c .before .nest-of .result) (c .before .before .before .before .if1 .left) (c .before .nest-of .ensures) (c .if2 .taken))
+    let inside = c .before .before .before .before .if1 .left in
+    let nested = c .before .nest-of in
+    sym (at-head .inv .2 ∙ scan-hit t (at-head .i) (at-head .inner) (nested .result) inside (nested .ensures) (c .if2 .taken))
 
 pub matching-end-spec : {M : Type 1} → statement M
 matching-end-spec =

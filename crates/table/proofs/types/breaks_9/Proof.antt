@@ -20,10 +20,11 @@ returns c =
 returns-2 : tie.Need-returns-2
 returns-2 c =
     let start = c .before .before .before .before .before in
-    let t = tableBy (start .args .words .now) (start .args .counts) in
-    let laid = start .pre .0 in
-    let inside : start .args .line < t .decls + t .nodes + t .rows = omega arith in
-    ap not (c .line-typed .ensures) ∙ sym (breaks-types t laid (start .args .line) (start .pre .1 .0) (start .args .types .now) (start .pre .1 .1 .0) (c .before .if1 .left) inside)
+    let a = start .args in
+    let t = tableBy (a .words .now) (a .counts) in
+    let inside : a .line < t .decls + t .nodes + t .rows = omega arith in
+    let typed = breaks-types t (start .pre .0) (a .line) (start .pre .1 .0) (a .types .now) (start .pre .1 .1 .0) (c .before .if1 .left) inside in
+    ap not (c .line-typed .ensures) ∙ sym typed
 
 pub breaks-9-spec : {M : Type 1} → statement M
 breaks-9-spec = tie.close (tie.spec returns (λ c κs. search needs) returns-2)

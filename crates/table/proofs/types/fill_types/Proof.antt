@@ -25,7 +25,8 @@ loop-again c =
     let t = tableBy (start .args .words .now) (start .args .counts) in
     let at-head = c .before .before .before .before .before .loop in
     let room : at-head .n < length (at-head .types) = omega arith in
-    (search needs, simp length-set (at-head .inv .1), types-more t (at-head .types) (at-head .n) (at-head .inv .2) (c .line-type .result) room (c .line-type .ensures))
+    let found = c .line-type in
+    (search needs, simp length-set (at-head .inv .1), types-more t (at-head .types) (at-head .n) (at-head .inv .2) (found .result) room (found .ensures))
 
 returns : tie.Need-returns Inv-loop μ-loop
 returns c =
