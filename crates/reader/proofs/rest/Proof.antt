@@ -1,5 +1,8 @@
--- `reader::rest` meets its contract: a walk of its MIR, by hand. The struct is taken apart, `after` is called on the slice and the number, and a struct is made anew of the same slice and the number that it returns. All that the proof knows of `after` is that it meets its contract.
--- The struct is Copy: what it owns is had twice for the call and the exit, and twice again at the exit, where one copy, with the facts of the new number in the place of at's, is what the result owns.
+-- `reader::rest` meets its contract: a walk of its MIR, by hand. The struct is taken apart, `after` is called on the slice and the number,
+-- and a struct is made anew of the same slice and the number that it returns. All that the proof knows of `after` is that it meets its
+-- contract.
+-- The struct is Copy: what it owns is had twice for the call and the exit, and twice again at the exit, where one copy, with the facts of
+-- the new number in the place of at's, is what the result owns.
 -- Assumes nothing.
 use mathlib.Core.Path.{_≡_, refl, ap}
 use Prim.Native.Nat.{ℕ, _<_, _^_}

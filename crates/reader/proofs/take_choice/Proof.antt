@@ -1,5 +1,8 @@
--- `reader::take_choice` meets its contract: a walk of its MIR, by hand. A `Reader` that `new` returns is held in a local and passed to `take` and to `rest`, and `followed` puts the number of the one beside the cursor of the other. All that the proof knows of the four is that each meets its contract.
--- A `Reader` is Copy: what it owns is had twice, once for `take` and once for `rest`. In a local of a body MIR erases the lifetime of the struct's type, so the value is shown to have the type at `erased`: what the struct owns does not say the lifetime's name.
+-- `reader::take_choice` meets its contract: a walk of its MIR, by hand. A `Reader` that `new` returns is held in a local and passed to `take`
+-- and to `rest`, and `followed` puts the number of the one beside the cursor of the other. All that the proof knows of the four is that each
+-- meets its contract.
+-- A `Reader` is Copy: what it owns is had twice, once for `take` and once for `rest`. In a local of a body MIR erases the lifetime of the
+-- struct's type, so the value is shown to have the type at `erased`: what the struct owns does not say the lifetime's name.
 -- Assumes nothing.
 use mathlib.Core.Path.{_≡_, refl, ap, _∙_}
 use Prim.Native.Nat.{ℕ, _<_, _^_}
