@@ -42,7 +42,7 @@ pub record SaysFull (ps P : List ℕ) (limit : ℕ) (cells lent : List ℕ) : Ty
 -- is a choice list under which a fresh run of Q with that limit uses exactly that list and ends the same way, at the same row, after as many
 -- steps, with both tracked circuits' cells equal; the tool writes that list whenever the room it is lent holds it, and ends with "list full"
 -- exactly when the room is shorter than the list."
--- (rule 10.5.) Here of any accepted places: "both tracked circuits' cells" are those of each tracked place.
+-- Demand 3 (rule 10.5), here of any accepted places: "both tracked circuits' cells" are those of each tracked place.
 pub record Demand3 (ps P : List ℕ) : Type 0 where
   -- `reduce_table` makes Q of P in a buffer as long, and Q passes
   pub reduces : (lent : List ℕ) → length lent ≡ length P → (reduceAnswer P ps (length lent) ≡ Passes) × (reduceBuffer P ps lent ≡ reduce P)
