@@ -87,12 +87,6 @@ if-one : (b : Bool) (xs ys : List ℕ) → length xs ≤ 1 → length ys ≤ 1 �
 if-one true xs ys h g = h
 if-one false xs ys h g = g
 
-max-left : (a b : ℕ) → a ≤ max a b
-max-left a b = omega numbers
-
-max-right : (a b : ℕ) → b ≤ max a b
-max-right a b = omega numbers
-
 module _ (ps : List ℕ) (t : Table) (ks : List Bool) (s : State) where
   load-one : (p : Ptr) → length (loadChoices ps t ks s p) ≤ 1
   load-one p = if-one (kept ps t ks s p) [] _ (omega numbers) (given-one (load [] (s .arrays) (s .cells) p []) (λ n. n ∷ []) (λ n. omega numbers))

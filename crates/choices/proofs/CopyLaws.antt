@@ -1,6 +1,6 @@
 -- The copy of a plain table is plain, and a row recorded on it says what the table's row comes to, and its numbers.
 -- Assumes nothing.
-use mathlib.Core.Path.{_≡_, sym, ap, _∙_, subst}
+use mathlib.Core.Path.{_≡_, refl, sym, ap, _∙_, subst}
 use Prim.Native.Nat.{ℕ, _+_, _*_, _≤_, _<_}
 use native.Mathlib.Omega.{arith}
 use native.Mathlib.Decide.{decLe}
@@ -30,6 +30,7 @@ use Rattle.prepared.specs.Own.{Own, ownTable}
 use Rattle.prepared.specs.Same.{Same}
 use Rattle.prepared.proofs.SameLaws.{own-same}
 use Rattle.evaluators.specs.CodeAnswers.{failed}
+use Rattle.evaluators.specs.declared.answers.Failure.{Failure}
 use Rattle.evaluators.specs.declared.answers.Failure.the-variants.{Fails, BadChoice, NoChoice, Stuck}
 use Rattle.machine.specs.declared.Machine.{Machine}
 use Rattle.machine.specs.declared.Move.{Move}
@@ -43,8 +44,6 @@ use Rattle.recording.specs.CodeMoves.{ReachedMove, StepRecords}
 use Rattle.runs.specs.CodeSteps.{Ready}
 use Rattle.runs.proofs.RunLaws.{run-next}
 use Rattle.runs.proofs.ReadyLaws.{worked-same, moves-same}
-use Rattle.choices.specs.declared.steps.Numbers.{Numbers}
-use Rattle.choices.specs.declared.steps.Numbers.the-variants.{Count, NoEnd}
 use Rattle.choices.specs.CodeSteps.{countOf}
 
 -- the kinds that the plain machine takes
@@ -63,25 +62,6 @@ module _ (k : ℕ) (e : known plain k ≡ true) where
     where
       large : 26 < k → k < 32 → ⊥
       large l u = false≢true (rw (le-leb 1 k (omega arith), lt-leb k 3 (omega arith), le-leb 16 k (omega arith), lt-leb k 26 l, lt-leb 32 k u) at e)
-
--- the numbers of a row that has a count are those up to it
-abbrev Counted : Numbers → List ℕ → Pushed → Type 0
-Counted (Count n) out p = pushed out n ≡ p
-Counted NoEnd out p = Unit {0}
-
-counts : (w : Worked) (out : List ℕ) (p : Pushed) → ReachedMove w out p → Counted (countOf w) out p
-unfolding ReachedMove ReachedBy
-counts (Moves x n) out p r = r
-counts (Ends e n) out p r = r
-counts (Not Fails n) out p r = r
-counts (Not BadChoice n) out p r = tt
-counts (Not NoChoice n) out p r = tt
-counts (Not Stuck n) out p r = tt
-
--- a row that has no count
-abbrev pub Uncounted : Numbers → Type 0
-Uncounted (Count n) = ⊥
-Uncounted NoEnd = Unit {0}
 
 module _ (t : List ℕ) (f : Frame) (p : f .classes ≡ false) (m : Machine) (cells : List ℕ) (R : Ready t f m cells) where
   abbrev table : Table
@@ -139,14 +119,20 @@ module _ (t : List ℕ) (f : Frame) (p : f .classes ≡ false) (m : Machine) (ce
               (subst (λ (k : MachineKind). CanHave [] k table here) kind-plain
                   (subst (λ (ps : List ℕ). CanHave ps (kindOf f) table here) no-places (R .can))) 1 [])
 
-      pub always-counted : (w : Worked) → step [] table here [] ≡ moveOut own m cells [] w → Uncounted (countOf w) → ⊥
+      -- ... so all that it may fail by is a failure
+      pub only-fails : (why : Failure) (n : ℕ) → step [] table here [] ≡ moveOut own m cells [] (Not why n) → why ≡ Fails
       unfolding moveOut failed
-      always-counted (Moves x n) e u = u
-      always-counted (Ends end n) e u = u
-      always-counted (Not Fails n) e u = u
-      always-counted (Not BadChoice n) e u = ends e .0
-      always-counted (Not NoChoice n) e u = ends e .0
-      always-counted (Not Stuck n) e u = ends e
+      only-fails Fails n e = refl
+      only-fails BadChoice n e = absurd (ends e .0)
+      only-fails NoChoice n e = absurd (ends e .0)
+      only-fails Stuck n e = absurd (ends e)
+
+      reached : (w : Worked) {out : List ℕ} {p : Pushed} → step [] table here [] ≡ moveOut own m cells [] w → ReachedMove w out p
+          → pushed out (countOf w) ≡ p
+      unfolding ReachedMove ReachedBy
+      reached (Moves x n) e r = r
+      reached (Ends end n) e r = r
+      reached (Not why n) {out} {p} e r = subst (λ (why : Failure). ReachedBy why n out p) (only-fails why n e) r
 
       -- a recorded row
       module _ (held before out : List ℕ) (w : Worked) (S : StepRecords own m cells held w before out) where
@@ -166,8 +152,5 @@ module _ (t : List ℕ) (f : Frame) (p : f .classes ≡ false) (m : Machine) (ce
             ∙ same .choices (pairOf own) (heldOf (m .count) held) here inside
             ∙ rw (O .first, O .second)
 
-        pub numbers-are : {n : ℕ} → countOf w ≡ Count n → pushed out n ≡ pushAll rowNumbers (pushed before 0)
-        numbers-are q =
-            subst (λ (c : Numbers). Counted c out (pushAll rowNumbers (pushed before 0))) q
-            (counts w out (pushAll rowNumbers (pushed before 0))
-                (subst (λ (xs : List ℕ). ReachedMove w out (pushAll xs (pushed before 0))) choices-same (S .numbers)))
+        pub numbers-are : pushed out (countOf w) ≡ pushAll rowNumbers (pushed before 0)
+        numbers-are = reached w row-is (subst (λ (xs : List ℕ). ReachedMove w out (pushAll xs (pushed before 0))) choices-same (S .numbers))

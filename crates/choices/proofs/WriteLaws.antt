@@ -30,8 +30,7 @@ use Rattle.prepared.specs.Own.{Own}
 use Rattle.prepared.proofs.SameLaws.{own-same}
 use Rattle.evaluators.specs.CodeAnswers.{failed}
 use Rattle.evaluators.specs.declared.answers.Failure.{Failure}
-use Rattle.evaluators.specs.declared.answers.Failure.the-variants.{Fails, BadChoice, NoChoice, Stuck}
-use Rattle.evaluators.proofs.answers.Failure.{the-type as failure}
+use Rattle.evaluators.specs.declared.answers.Failure.the-variants.{Fails}
 use Rattle.evaluators.proofs.ViewLaws.{count-arrays}
 use Rattle.machine.specs.declared.Machine.{Machine}
 use Rattle.machine.specs.declared.Move.{Move}
@@ -53,20 +52,13 @@ use Rattle.runs.specs.RecordPromises.{CanBe}
 use Rattle.runs.proofs.RunLaws.{going-on}
 use Rattle.runs.proofs.GoingLaws.{arrays-most}
 use Rattle.runs.proofs.ReadyLaws.{step-bounds, sized-step}
-use Rattle.choices.specs.declared.steps.Numbers.the-variants.{Count, NoEnd}
-use Rattle.choices.specs.CodeSteps.{Begins, failedCount, countOf, heldWith, stoppedOf, WriterWrites}
+use Rattle.choices.specs.CodeSteps.{Begins, countOf, heldWith, stoppedOf, WriterWrites}
 use Rattle.choices.proofs.ArrayLaws.{arraysAfter, step-arrays}
 use Rattle.choices.proofs.BoundLaws.{step-most}
 use Rattle.choices.proofs.HeldLaws.{held-next, held-length}
-use Rattle.choices.proofs.CopyLaws.{Uncounted, no-places, accepted-plain, always-counted, row-is, goes-on, numbers-are}
+use Rattle.choices.proofs.CopyLaws.{no-places, accepted-plain, only-fails, row-is, goes-on, numbers-are}
 
--- ---- what stands for the failures that a plain step does not have, and for a row that did not go on to an end
-pub other-count : (why : Failure) (n : ℕ) → OneOf (1 ∷ 2 ∷ 3 ∷ []) (tagOf failure why) → NoEnd ≡ failedCount why n
-other-count Fails n h = absurd (miss (1 ∷ 2 ∷ 3 ∷ []) 0 tt h)
-other-count BadChoice n h = refl
-other-count NoChoice n h = refl
-other-count Stuck n h = refl
-
+-- ---- what stands for a row that did not go on to an end
 pub other-stop : (w : Worked) (n at : ℕ) (m : Machine) → OneOf (0 ∷ 2 ∷ []) (tagOf worked w) → ran Code.Fail (suc n) at m ≡ stoppedOf w n at m
 other-stop (Moves x next) n at m h = refl
 other-stop (Ends e next) n at m h = absurd (miss (0 ∷ 2 ∷ []) 1 tt h)
@@ -210,12 +202,9 @@ module _ {t : List ℕ} {f : Frame} {lent : List ℕ} {limit : ℕ} {m₀ : Mach
   row-comes-to : step [] table here [] ≡ moveOut own m cells [] w
   row-comes-to = row-is t f (K .begins .plain) m cells (L .ready) own (K .copy) (K .inside) held buffer numbers w (K .row)
 
-  -- no plain step is stuck, nor for want of a choice
-  never : (w : Worked) → step [] table here [] ≡ moveOut own m cells [] w → Uncounted (countOf w) → ⊥
-  never = always-counted t f (K .begins .plain) m cells (L .ready) own (K .copy) (K .inside)
-
-  pub never-uncounted : countOf w ≡ NoEnd → ⊥
-  never-uncounted q = never w row-comes-to (subst Uncounted (sym q) tt)
+  -- all that it may fail by is a failure
+  fails-here : (why : Failure) (n : ℕ) → step [] table here [] ≡ moveOut own m cells [] (Not why n) → why ≡ Fails
+  fails-here = only-fails t f (K .begins .plain) m cells (L .ready) own (K .copy) (K .inside)
 
   one-left : limit - steps ≡ suc (limit - suc steps)
   one-left = let u = K .more in omega arith
@@ -225,13 +214,13 @@ module _ {t : List ℕ} {f : Frame} {lent : List ℕ} {limit : ℕ} {m₀ : Mach
   bounds q = step-bounds t f own (K .copy) m cells (L .ready) (K .inside) [] 0 (K .row .works) q
 
   -- ---- its numbers, of which there are n
-  module _ {n : ℕ} (q : countOf w ≡ Count n) where
+  module _ {n : ℕ} (q : n ≡ countOf w) where
     few : length xs ≤ 8192
     few = step-most ps table ks here (K .begins .shallow) (m .row)
 
     exact : pushed numbers n ≡ pushed (xs ++ drop (0 + length xs) buffer) (0 + length xs)
     exact =
-        numbers-are t f (K .begins .plain) m cells (L .ready) own (K .copy) (K .inside) held buffer numbers w (K .row) q
+        ap (pushed numbers) q ∙ numbers-are t f (K .begins .plain) m cells (L .ready) own (K .copy) (K .inside) held buffer numbers w (K .row)
         ∙ push-fits xs buffer 0 (let h = few in let s = K .sized in omega arith)
 
     count-is : n ≡ length xs
@@ -302,10 +291,7 @@ module _ {t : List ℕ} {f : Frame} {lent : List ℕ} {limit : ℕ} {m₀ : Mach
                 → WriterWrites t f m₀ cs₀ lent limit (stoppedOf w steps (at + n) m) cells list′
             go (Moves x next) e h = absurd (miss (1 ∷ 2 ∷ []) 0 tt h)
             go (Ends c next) e h = stop-at c (by-step e)
-            go (Not Fails next) e h = stop-at Code.Fail (by-step e)
-            go (Not BadChoice next) e h = absurd (never (Not BadChoice next) e tt)
-            go (Not NoChoice next) e h = absurd (never (Not NoChoice next) e tt)
-            go (Not Stuck next) e h = absurd (never (Not Stuck next) e tt)
+            go (Not why next) e h = stop-at Code.Fail (by-step (e ∙ ap (failed [] next) (fails-here why next e)))
 
         -- the run goes on
         module _ {x : Move} {next : ℕ} (moves : w ≡ Moves x next) (m′ : Machine) (cells′ : List ℕ) (em : m′ ≡ stepOf m x) (ec : cells′ ≡ cellsOf cells x)
@@ -350,8 +336,8 @@ module _ {t : List ℕ} {f : Frame} {lent : List ℕ} {limit : ℕ} {m₀ : Mach
                 ∙ ap (λ (q : Bool). heldAfter (rowKind (rowAt table (m .row) .kind)) q ks)
                     (own-same t f own (L .ready .laid) (kindOf f) (L .ready .accepted) (K .copy) .heldNext (m .row) (K .inside))
 
-            pub left-again : Left t f lent limit m₀ cs₀ m′ cells′ list′ held′ (at + n) (steps + 1)
-            left-again = record {
+            pub left-again : {at′ : ℕ} → at′ ≡ at + n → Left t f lent limit m₀ cs₀ m′ cells′ list′ held′ at′ (steps + 1)
+            left-again ea = subst (λ (k : ℕ). Left t f lent limit m₀ cs₀ m′ cells′ list′ held′ k (steps + 1)) (sym ea) (record {
               ready = next-ready;
               sized = subst Sized (sym em) (sized-step m x (L .sized));
               upto = let u = K .more in omega arith;
@@ -368,7 +354,7 @@ module _ {t : List ℕ} {f : Frame} {lent : List ℕ} {limit : ℕ} {m₀ : Mach
                   ∙ ap (λ (k : ℕ). withNumbers (take at list) (withNumbers xs (from k (heldNext table (m .row) ks) (length lent - at - length xs))))
                       (add-one steps)
                   ∙ by-step goes-to;
-            }
+            })
               where
                 from : ℕ → List Bool → ℕ → Report
                 from n ks room = whole t f (limit - n) n ks m′ cells′ room

@@ -19,10 +19,6 @@ use Rattle.runs.specs.CodeSteps.{Ready, ran}
 use mathlib.Core.Bool.{false}
 use Rattle.machine.specs.declared.Worked.{Worked}
 use Rattle.machine.specs.declared.Worked.the-variants.{Moves, Ends, Not}
-use Rattle.evaluators.specs.declared.answers.Failure.{Failure}
-use Rattle.evaluators.specs.declared.answers.Failure.the-variants.{Fails, BadChoice, NoChoice, Stuck}
-use Rattle.choices.specs.declared.steps.Numbers.{Numbers}
-use Rattle.choices.specs.declared.steps.Numbers.the-variants.{Count, NoEnd}
 use Rattle.machine.specs.declared.End.the-variants as Code
 use Rattle.runs.specs.declared.Ran.{Ran}
 use Rattle.choices.specs.Ends.{reportOf}
@@ -42,16 +38,10 @@ unfoldable pub heldWith : List ℕ → ℕ → ℕ → List ℕ → List ℕ
 heldWith own count row held = if ltb count 16 then set held count (flagOf own row) else held
 
 -- how many numbers a row has
-abbrev pub failedCount : Failure → ℕ → Numbers
-failedCount Fails n = Count n
-failedCount BadChoice n = NoEnd
-failedCount NoChoice n = NoEnd
-failedCount Stuck n = NoEnd
-
-abbrev pub countOf : Worked → Numbers
-countOf (Moves x n) = Count n
-countOf (Ends e n) = Count n
-countOf (Not why n) = failedCount why n
+abbrev pub countOf : Worked → ℕ
+countOf (Moves x n) = n
+countOf (Ends e n) = n
+countOf (Not why n) = n
 
 -- A row that does not go on, after n steps, with the numbers up to `at` written: it counts, and so do they (rule 2.29).
 -- A plain step takes no choice and is never stuck, and none that goes on is asked of, so what stands for those is never handed back.

@@ -1,6 +1,5 @@
 // The loop of the choice writer.
 use crate::marks::hold;
-use evaluators::answers::Failure;
 use machine::End;
 use machine::Machine;
 use machine::Move;
@@ -12,33 +11,30 @@ use prepared::own::lay_out;
 use recording::moves::recorded_move;
 use runs::Ran;
 ghost use mathlib.Core.Path.{_≡_};
-ghost use Prim.Native.Nat.{_<_};
+ghost use Prim.Native.Nat.{_+_, _<_, _≤_};
+ghost use lib.ListN.{length};
+ghost use lib.Seq.{paste};
 ghost use Rattle.runs.specs.CodeSteps.{ran};
-ghost use Rattle.choices.specs.CodeSteps.{Begins, failedCount, countOf, stoppedOf, WriterWrites};
+ghost use Rattle.choices.specs.CodeSteps.{Begins, countOf, stoppedOf, WriterWrites};
 
-// How many numbers a row has; or that it comes to no end.
-pub enum Numbers {
-    Count(usize),
-    NoEnd,
-}
-
-fn failed_count(why: Failure, n: usize) -> Numbers
-    ensures { λ r. ⌜ r ≡ failedCount why n ⌝ }
-{
-    match why {
-        Failure::Fails => Numbers::Count(n),
-        _ => Numbers::NoEnd,
-    }
-}
-
-fn count_of(w: Worked) -> Numbers
+// How many numbers a row has.
+fn count_of(w: Worked) -> usize
     ensures { λ r. ⌜ r ≡ countOf w ⌝ }
 {
     match w {
-        Worked::Moves(_, n) => Numbers::Count(n),
-        Worked::Ends(_, n) => Numbers::Count(n),
-        Worked::Not(why, n) => failed_count(why, n),
+        Worked::Moves(_, n) => n,
+        Worked::Ends(_, n) => n,
+        Worked::Not(_, n) => n,
     }
+}
+
+// Writes n numbers into the list, from a place on; the place after them.
+fn write_numbers(list: &mut [u32], at: usize, numbers: &[u32], n: usize) -> usize
+    requires { ⌜ (at + n ≤ length (now list)) × (n ≤ length (now numbers)) ⌝ }
+    ensures { λ r. ⌜ (r ≡ at + n) × (now (list .exit) ≡ paste (now (list .entry)) at (now (numbers .entry)) n) ⌝ }
+{
+    copy(list, at, numbers, n);
+    at + n
 }
 
 // An end after so many steps, with so many numbers written.
@@ -88,43 +84,21 @@ pub fn write_steps(
             return wrote_to(End::OutOfSteps, steps, at, m);
         }
         let w = recorded_move(
-            &own,
-            cells,
-            &mut numbers,
-            m.row,
-            &m.numbers,
-            &m.bases,
-            m.open,
-            &m.loop_rows,
-            &m.starts,
-            &m.ends,
-            m.count,
-            &m.firsts,
-            &m.lengths,
-            &m.shapes,
-            &held,
+            &own, cells, &mut numbers, m.row, &m.numbers, &m.bases, m.open, &m.loop_rows, &m.starts, &m.ends, m.count, &m.firsts, &m.lengths, &m.shapes, &held,
         );
-        let c = count_of(w);
-        let Numbers::Count(n) = c else {
-            return wrote_to(End::Fail, steps, at, m);
-        };
+        let n = count_of(w);
         if list.len() - at < n {
             return wrote_to(End::ListFull, steps, at, m);
         }
-        copy(list, at, &numbers, n);
-        at = at + n;
+        at = write_numbers(list, at, &numbers, n);
         let Worked::Moves(change, _) = w else {
             return stopped(w, steps, at, m);
         };
         hold(&own, &mut held, m.count, m.row);
         steps = steps + 1;
         match change {
-            Move::Goes => {
-                m = m.pass();
-            }
-            Move::Puts(a, number, base) => {
-                m = m.put(a, number, base);
-            }
+            Move::Goes => m = m.pass(),
+            Move::Puts(a, number, base) => m = m.put(a, number, base),
             Move::Writes(i, v) => {
                 cells[i] = v;
                 m = m.pass();
@@ -133,12 +107,8 @@ pub fn write_steps(
                 zero(cells, first, size);
                 m = m.lay(a, first, len, reduced);
             }
-            Move::Enters(a, number, row, depth, from, upto) => {
-                m = m.enter(a, number, row, depth, from, upto);
-            }
-            Move::Leaves(a, number, depth, next) => {
-                m = m.leave(a, number, depth, next);
-            }
+            Move::Enters(a, number, row, depth, from, upto) => m = m.enter(a, number, row, depth, from, upto),
+            Move::Leaves(a, number, depth, next) => m = m.leave(a, number, depth, next),
         }
     }
     wrote_to(End::Done, steps, at, m)

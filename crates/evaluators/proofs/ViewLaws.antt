@@ -32,13 +32,13 @@ use Rattle.reader.proofs.ReaderLaws.{choice-left, none-left}
 use Rattle.prepared.proofs.Form.{the-type as form}
 use Rattle.prepared.specs.declared.Form.{Form}
 use Rattle.prepared.specs.declared.Form.the-variants.{Bool as FBool, Uint as FUint, Class as FClass, Pointer as FPointer}
-use Rattle.prepared.specs.View.{varsBy, byForm}
+use Rattle.prepared.specs.View.{varsBy, byForm, arrayIn, arraysOf}
 use Rattle.prepared.specs.Own.{declsOf, ownForm, ownVars, placesOf}
 use Rattle.evaluators.specs.declared.answers.Failure.the-variants.{BadChoice, NoChoice, Stuck}
 use Rattle.evaluators.specs.declared.answers.Answer.{Answer}
 use Rattle.evaluators.specs.declared.answers.Answer.the-variants.{Bool as ABool, Uint as AUint, Pointer as APointer, Not}
 use Rattle.evaluators.specs.declared.arrays.Target.the-variants.{Array as To, Missing, Unknown}
-use Rattle.evaluators.specs.CodeAnswers.{failed, Answers, Says, arrayIn, arraysOf}
+use Rattle.evaluators.specs.CodeAnswers.{failed, Answers, Says}
 use Rattle.evaluators.specs.CodeLeaves.{heldFor, HoldsFor, HoldsPointer, ClassChoice, classIn, targetOut, Points, storedIn, readOf, validIn}
 use Rattle.evaluators.proofs.AnswerLaws.{said-bool, said-uint, said-pointer, said-not, said-stuck, says-same}
 

@@ -1,28 +1,20 @@
 -- What an answer of an evaluator says, and what an evaluator is lent.
 use mathlib.Core.Path.{_≡_}
 use Prim.Native.Nat.{ℕ}
-use mathlib.Core.List.{List, [], _∷_}
-use lib.ListN.{getD, drop}
-use lib.Dec.{eqb}
-use Rattle.lists.specs.Tab.{tab}
+use mathlib.Core.List.{List}
+use lib.ListN.{drop}
 use Rattle.model.specs.Table.{Ty}
 use Rattle.model.specs.Table.Ty.{bool, uint, pointer}
 use Rattle.model.specs.Work.{Out, Work, give, wrong}
 use Rattle.model.specs.Work.Out.{fails, badChoice, noChoice, stuck}
 use Rattle.model.specs.State.{Value, Array}
 use Rattle.model.specs.Eval.{Contents, Of, Ptr, ptr, bools, uints, below, eval}
-use Rattle.reader.specs.declared.Choice.{Choice}
-use Rattle.reader.specs.declared.Choice.the-variants.{Is, NoneLeft}
+use Rattle.prepared.specs.View.{arraysOf}
 use Rattle.prepared.specs.Own.{ownTable, ownVars, placesOf}
 use Rattle.evaluators.specs.declared.answers.Failure.{Failure}
 use Rattle.evaluators.specs.declared.answers.Failure.the-variants.{Fails, BadChoice, NoChoice, Stuck}
 use Rattle.evaluators.specs.declared.answers.Answer.{Answer}
 use Rattle.evaluators.specs.declared.answers.Answer.the-variants.{Bool as ABool, Uint as AUint, Pointer as APointer, Not}
-
--- ---- the cursor: what is left of the list of choices once one was read
-abbrev pub leftOf : List ℕ → Choice → List ℕ
-leftOf l (Is v at) = v ∷ drop at l
-leftOf l NoneLeft = []
 
 -- ---- why there is no value, with the cursor at `at` into the list l
 unfoldable pub failed : {A : Type 0} → List ℕ → ℕ → Failure → Out A
@@ -65,13 +57,6 @@ pub record Answers (w : Ty) (l : List ℕ) (r : Answer) (o : Out (Of w)) : Type 
 -- ... with the cursor at `at`, whatever the list
 pub record Says (w : Ty) (at : ℕ) (r : Answer) (m : Work (Of w)) : Type 0 where
   pub says : (l : List ℕ) → Answers w l r (m (drop at l))
-
--- ---- the arrays, by the columns of their first cells, lengths and shapes
-abbrev pub arrayIn : List ℕ → List ℕ → List ℕ → ℕ → Array
-arrayIn firsts lengths shapes i = record { start = getD firsts i 0; len = getD lengths i 0; reduced = eqb (getD shapes i 0) 1 }
-
-unfoldable pub arraysOf : ℕ → List ℕ → List ℕ → List ℕ → List Array
-arraysOf count firsts lengths shapes = tab count (arrayIn firsts lengths shapes)
 
 -- ---- what an evaluator is lent: the run's own copy, the record's columns and the cells
 pub record Lent : Type 0 where

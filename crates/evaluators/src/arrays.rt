@@ -11,7 +11,7 @@ ghost use Rattle.evaluators.specs.CodeAnswers.{Answers, Says};
 ghost use Rattle.model.specs.Table.Ty.{bool, uint};
 ghost use Rattle.model.specs.Eval.{ptr, arrayOf};
 ghost use Rattle.prepared.specs.Own.{placesOf};
-ghost use Rattle.evaluators.specs.CodeAnswers.{arraysOf};
+ghost use Rattle.prepared.specs.View.{arraysOf};
 ghost use Rattle.evaluators.specs.CodeLeaves.{Points, storedIn, trackedIn, readOf, loadOf, validIn};
 
 // An array's first cell, its length and whether it is reduced; no array; or one that the record lacks.

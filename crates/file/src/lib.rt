@@ -3,7 +3,7 @@ mod blocks;
 mod checks;
 mod fill;
 mod layout;
-mod word;
+pub mod word;
 
 use layout::BLOCK;
 use layout::FILE_BYTES;

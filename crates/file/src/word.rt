@@ -10,8 +10,8 @@ fn wide(x: u8) -> u32
     x as u32
 }
 
-// The word at byte i.
-pub(crate) fn word_at(bytes: &[u8], i: usize) -> u32
+// The word at byte i. For our crates above too, which see to what is required here.
+pub fn word_at(bytes: &[u8], i: usize) -> u32
     requires { ⌜ i + 3 < length (now bytes) ⌝ }
     ensures { λ r. ⌜ r ≡ wordAt (now (bytes .entry)) i ⌝ }
 {

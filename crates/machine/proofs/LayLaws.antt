@@ -24,11 +24,11 @@ use Rattle.model.specs.Eval.{sizeOf, cellsLaid}
 use Rattle.model.specs.Step.{Move, cleared, made, past, withVar, withArray, addArray, newArray, rowRule}
 use Rattle.model.specs.Step.End.{wantOfCells}
 use Rattle.model.specs.Step.Move.{to, stop}
-use Rattle.prepared.specs.View.{byForm}
+use Rattle.prepared.specs.View.{byForm, arrayIn, arraysOf}
 use Rattle.prepared.specs.Own.{placesOf, declsOf, ownForm}
 use Rattle.evaluators.specs.declared.answers.Failure.the-variants.{Stuck}
 use Rattle.evaluators.specs.declared.answers.Answer.{Answer}
-use Rattle.evaluators.specs.CodeAnswers.{Answers, arrayIn, arraysOf, operand}
+use Rattle.evaluators.specs.CodeAnswers.{Answers, operand}
 use Rattle.evaluators.proofs.ViewLaws.{count-arrays}
 use Rattle.machine.specs.declared.Machine.{Machine}
 use Rattle.machine.specs.declared.Move.the-variants.{Lays}

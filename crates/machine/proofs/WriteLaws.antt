@@ -26,7 +26,8 @@ use Rattle.evaluators.specs.declared.answers.Answer.{Answer}
 use Rattle.evaluators.specs.declared.answers.Answer.the-variants.{Uint as AUint, Pointer as APointer}
 use Rattle.evaluators.specs.declared.arrays.Target.{Target}
 use Rattle.evaluators.specs.declared.arrays.Target.the-variants.{Array as To, Missing, Unknown}
-use Rattle.evaluators.specs.CodeAnswers.{failed, outOf, Answers, arraysOf, operand}
+use Rattle.evaluators.specs.CodeAnswers.{failed, outOf, Answers, operand}
+use Rattle.prepared.specs.View.{arraysOf}
 use Rattle.evaluators.specs.CodeLeaves.{targetOut, Points}
 use Rattle.machine.specs.declared.Machine.{Machine}
 use Rattle.machine.specs.declared.Move.the-variants.{Goes, Writes}

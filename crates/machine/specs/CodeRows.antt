@@ -1,7 +1,6 @@
 -- What the parts of the rows say, as the code groups them: each is an equation, so that the choice writer's rows use them too.
-use mathlib.Core.Path.{_≡_}
-use Prim.Native.Nat.{ℕ, suc, _+_, _*_}
-use mathlib.Core.Bool.{Bool, true, false, _&&_, _||_}
+use Prim.Native.Nat.{ℕ, suc, _+_}
+use mathlib.Core.Bool.{Bool, _&&_, _||_}
 use mathlib.Core.List.{List}
 use lib.ListN.{getD}
 use lib.Dec.{ltb, leb, eqb}
@@ -16,7 +15,7 @@ use Rattle.prepared.specs.declared.Form.the-variants.{Bool as FBool, Uint as FU
 use Rattle.prepared.specs.Own.{placesOf, declsOf, rowsOf, ownTable, ownForm}
 use Rattle.evaluators.specs.declared.arrays.Target.{Target}
 use Rattle.evaluators.specs.declared.arrays.Target.the-variants.{Array as To, Missing, Unknown}
-use Rattle.evaluators.specs.declared.answers.Failure.the-variants.{Fails, BadChoice, NoChoice, Stuck}
+use Rattle.evaluators.specs.declared.answers.Failure.the-variants.{Fails, Stuck}
 use Rattle.evaluators.specs.declared.answers.Answer.{Answer}
 use Rattle.evaluators.specs.declared.answers.Answer.the-variants.{Bool as ABool, Uint as AUint, Pointer as APointer, Not as NoValue}
 use Rattle.machine.specs.declared.End.the-variants.{AssertFalse, AssumeFalse, WantOfCells}

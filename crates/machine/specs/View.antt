@@ -7,9 +7,8 @@ use Rattle.model.specs.State.{Value, Loop, State, position}
 use Rattle.model.specs.Step.{End as ModelEnd}
 use Rattle.model.specs.Step.End.{done, assertFalse, assumeFalse, failed, wantOfCells, outOfSteps, choiceNotAllowed, noChoiceLeft, listFull}
 use Rattle.prepared.specs.declared.Frame.{Frame}
-use Rattle.prepared.specs.View.{varsOf}
+use Rattle.prepared.specs.View.{varsOf, arraysOf}
 use Rattle.prepared.specs.Own.{ownVars}
-use Rattle.evaluators.specs.CodeAnswers.{arraysOf}
 use Rattle.machine.specs.declared.Machine.{Machine}
 use Rattle.machine.specs.declared.End.{End}
 use Rattle.machine.specs.declared.End.the-variants as Code

@@ -18,7 +18,7 @@ ghost use Rattle.model.specs.Work.{next};
 ghost use Rattle.model.specs.Eval.{arrayOf};
 ghost use Rattle.model.specs.Step.{made};
 ghost use Rattle.prepared.specs.Own.{placesOf};
-ghost use Rattle.evaluators.specs.CodeAnswers.{arraysOf};
+ghost use Rattle.prepared.specs.View.{arraysOf};
 ghost use Rattle.evaluators.specs.CodeLeaves.{targetOut};
 ghost use Rattle.machine.specs.CodeMoves.{storeIn, Stores};
 ghost use Rattle.machine.specs.CodeRows.{cellGets, placeGets, trackedGets, targetGets};

@@ -52,9 +52,6 @@ leaves-tail c cs = taking (c ∷ []) refl (λ e. absurd (let z : _≡_ {A = ℕ}
 pub leaves-plain : {cs left : List ℕ} → Leaves plain cs left → left ≡ cs
 leaves-plain {left = left} x = sym (x .split ∙ ap (λ l. l ++ left) (x .plainNone refl))
 
-pub takes-is : {m : MachineKind} → m ≡ reduced → TakesChoices m
-takes-is e = subst TakesChoices (sym e) tt
-
 -- not stuck, the plain machine taking no choice, and a value that it gives has the property
 abbrev pub Held : {A : Type 0} → MachineKind → (A → Type 0) → List ℕ → Out A → Type 0
 Held m P cs (gives a left) = P a × Leaves m cs left

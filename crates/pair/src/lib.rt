@@ -1,9 +1,8 @@
 // A pair of runs from one input: the plain run of a table, and the run of its reduction under the choices that the choice writer wrote.
-mod inputs;
 mod lines;
 mod tables;
 
-use inputs::word_at;
+use file::word::word_at;
 use machine::End;
 use table::Verdict;
 use tables::run_file;

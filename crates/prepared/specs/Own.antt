@@ -15,9 +15,6 @@ use Rattle.prepared.specs.declared.Form.the-variants.{Bool as FBool, Uin
 use Rattle.prepared.specs.View.{tableFor, formIn, varsBy}
 
 -- ---- where things stand in the copy
-abbrev pub headAt : ℕ
-headAt = 128
-
 abbrev pub nodesAt : ℕ
 nodesAt = 136
 

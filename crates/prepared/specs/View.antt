@@ -1,4 +1,4 @@
--- What a run is told beside its table: which machine it is and its tracked places; and what each variable holds, by its declaration.
+-- What a run is told beside its table: which machine it is and its tracked places; what each variable holds, by its declaration; and the arrays.
 use Prim.Native.Nat.{ℕ}
 use mathlib.Core.List.{List}
 use lib.ListN.{getD}
@@ -9,7 +9,7 @@ use Rattle.table.specs.Checks.{machineOf}
 use Rattle.model.specs.Class.{pair}
 use Rattle.model.specs.Table.{Table, Ty, typeAt}
 use Rattle.model.specs.Table.Ty.{bool, uint, pointer}
-use Rattle.model.specs.State.{MachineKind, Value, classed, placesIn}
+use Rattle.model.specs.State.{MachineKind, Value, Array, classed, placesIn}
 use Rattle.model.specs.State.Value.{Truth, Uint, Class, Pointer}
 use Rattle.prepared.specs.declared.Frame.{Frame}
 use Rattle.prepared.specs.declared.Form.{Form}
@@ -52,3 +52,10 @@ varsBy n form numbers bases = tab n (λ i. byForm (form i) (getD numbers i 0) (g
 
 abbrev pub varsOf : List ℕ → Frame → List ℕ → List ℕ → List Value
 varsOf t f numbers bases = varsBy (f .counts .decls) (formIn t f) numbers bases
+
+-- ---- the arrays, by the columns of their first cells, lengths and shapes
+abbrev pub arrayIn : List ℕ → List ℕ → List ℕ → ℕ → Array
+arrayIn firsts lengths shapes i = record { start = getD firsts i 0; len = getD lengths i 0; reduced = eqb (getD shapes i 0) 1 }
+
+unfoldable pub arraysOf : ℕ → List ℕ → List ℕ → List ℕ → List Array
+arraysOf count firsts lengths shapes = tab count (arrayIn firsts lengths shapes)

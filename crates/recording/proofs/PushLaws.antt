@@ -1,14 +1,13 @@
--- Laws of pushes: one list after another, the length that is kept, and what stands in the buffer where there was room, or was none.
+-- Laws of pushes: one list after another, the length that is kept, and what stands in the buffer where there was room.
 -- Assumes nothing.
 use Prim.Native.Nat.{ℕ, suc, _+_, _≤_, _<_}
 use native.Mathlib.Omega.{arith}
-use native.Mathlib.Decide.{decLt, decLe}
 use native.Mathlib.Numerals.{add-one}
 use mathlib.Core.Path.{_≡_, refl, sym, ap, _∙_}
 use mathlib.Core.Bool.{Bool, true, false}
 use mathlib.Core.List.{List, [], _∷_, _++_}
 use lib.ListN.{length, set, take, drop, length-set}
-use lib.Seq.{sets, sets-eq, take-at}
+use lib.Seq.{sets, sets-eq}
 use lib.Dec.{ltb}
 use borrow.Author.Tests.{lt-ltb, le-ltb}
 use Rattle.lists.specs.If.{if_then_else_}
@@ -63,42 +62,3 @@ sets-all (x ∷ xs) b i h =
 
 pub push-fits : (xs b : List ℕ) (i : ℕ) → i + length xs ≤ length b → pushAll xs (pushed b i) ≡ pushed (take i b ++ xs ++ drop (i + length xs) b) (i + length xs)
 push-fits xs b i h = sets-all xs b i h ∙ ap (λ (l : List ℕ). pushed l (i + length xs)) (sets-eq xs b i h)
-
--- where there is not, the place is the buffer's end
-pub push-full : (xs b : List ℕ) (i : ℕ) → i ≤ length b → length b ≤ i + length xs → pushAll xs (pushed b i) .at ≡ length b
-unfolding pushAll
-push-full [] b i h k = omega arith
-push-full (x ∷ xs) b i h k = elim (decLt i (length b)) [
-  | yes l ↦ ap (λ (p : Pushed). pushAll xs p .at) (sym (push-in b i x l) ∙ ap (pushed (set b i x)) (add-one i))
-      ∙ push-full xs (set b i x) (suc i) (rw (length-set b i x) l) (rw (length-set b i x) (omega arith))
-      ∙ length-set b i x
-  | no l ↦ ap (λ (p : Pushed). pushAll xs p .at) (sym (push-out b i x (omega arith))) ∙ push-full xs b i h (omega arith)
-]
-
--- ---- from place 0 on: n is the place reached
-module _ (xs b out : List ℕ) (n : ℕ) (e : pushed out n ≡ pushAll xs (pushed b 0)) where
-  -- a buffer that is not full holds them all
-  pub push-below : n < length b → (length xs ≡ n) × (take n out ≡ xs)
-  push-below h = elim (decLe (length xs) (length b)) [
-    | yes l ↦ fitted (e ∙ push-fits xs b 0 (omega arith))
-    | no l ↦ absurd (filled (ap (λ (p : Pushed). p .at) e ∙ push-full xs b 0 (omega arith) (omega arith)))
-  ]
-    where
-      filled : n ≡ length b → ⊥
-      filled q = omega arith
-
-      fitted : pushed out n ≡ pushed (xs ++ drop (0 + length xs) b) (0 + length xs) → (length xs ≡ n) × (take n out ≡ xs)
-      fitted q =
-          let m : n ≡ 0 + length xs = ap (λ (p : Pushed). p .at) q in
-          let m′ : length xs ≡ n = omega arith in
-          (m′, ap (take n) (ap (λ (p : Pushed). p .buffer) q) ∙ take-at xs (drop (0 + length xs) b) n m′)
-
-  -- a full one has at least as many numbers as places
-  pub push-filled : n ≡ length b → length b ≤ length xs
-  push-filled h = elim (decLe (length b) (length xs)) [
-    | yes l ↦ l
-    | no l ↦ absurd (short (ap (λ (p : Pushed). p .at) (e ∙ push-fits xs b 0 (omega arith))) l)
-  ]
-    where
-      short : n ≡ 0 + length xs → (length b ≤ length xs → ⊥) → ⊥
-      short q l = omega arith

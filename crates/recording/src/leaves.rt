@@ -14,7 +14,7 @@ ghost use mathlib.Core.Bool.{true};
 ghost use Prim.Native.Nat.{_≤_};
 ghost use Rattle.model.specs.Eval.{ptr};
 ghost use Rattle.prepared.specs.Own.{declsOf};
-ghost use Rattle.evaluators.specs.CodeAnswers.{arraysOf};
+ghost use Rattle.prepared.specs.View.{arraysOf};
 ghost use Rattle.evaluators.specs.CodeLeaves.{leafAt};
 ghost use Rattle.recording.specs.CodePushes.{pushed};
 ghost use Rattle.recording.specs.CodeRecords.{Plain, heldOf, placedAt, VariableRecords, LeafRecords, CellRecords};

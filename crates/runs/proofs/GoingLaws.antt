@@ -21,8 +21,7 @@ use Rattle.model.specs.State.{Loop, MachineKind, classed, formOf}
 use Rattle.model.specs.State.Value.{Truth, Uint, Class, Pointer}
 use Rattle.model.specs.Accepted.{CanHave, Holds, Regular}
 use Rattle.model.proofs.ReducedAccepted.{R}
-use Rattle.prepared.specs.View.{boolOr, byForm, kindOf, formFor, formIn, tableFor, varsOf, varsBy}
-use Rattle.evaluators.specs.CodeAnswers.{arrayIn, arraysOf}
+use Rattle.prepared.specs.View.{boolOr, byForm, kindOf, formFor, formIn, tableFor, varsOf, varsBy, arrayIn, arraysOf}
 use Rattle.machine.specs.View.{loopIn, loopsOf, stateOf}
 
 -- ---- at most eight loops are open

@@ -26,8 +26,7 @@ use Rattle.model.proofs.Demand3Proof.{fresh-can}
 use Rattle.model.proofs.Kept.{fresh-regular}
 use Rattle.machine.specs.declared.Machine.{Machine}
 use Rattle.prepared.specs.declared.Frame.{Frame}
-use Rattle.prepared.specs.View.{places, kindOf, tableFor, varsOf}
-use Rattle.evaluators.specs.CodeAnswers.{arraysOf}
+use Rattle.prepared.specs.View.{places, kindOf, tableFor, arraysOf}
 use Rattle.machine.specs.View.{stateOf, loopsOf}
 use Rattle.machine.specs.CodeFresh.{freshVars, freshRecord}
 use Rattle.machine.proofs.FreshLaws.{fresh-vars}

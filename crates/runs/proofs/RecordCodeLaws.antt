@@ -29,8 +29,7 @@ use Rattle.machine.specs.declared.Machine.{Machine}
 use Rattle.prepared.specs.declared.Frame.{Frame}
 use Rattle.prepared.specs.declared.Form.{Form}
 use Rattle.prepared.specs.declared.Form.the-variants as Form
-use Rattle.prepared.specs.View.{places, kindOf, tableFor, formFor, formIn, byForm, boolOr, varsOf, varsBy}
-use Rattle.evaluators.specs.CodeAnswers.{arrayIn, arraysOf}
+use Rattle.prepared.specs.View.{places, kindOf, tableFor, formFor, formIn, byForm, boolOr, varsOf, varsBy, arrayIn, arraysOf}
 use Rattle.machine.specs.View.{stateOf, loopsOf}
 use Rattle.machine.specs.CodeRows.{sizeAt}
 use Rattle.evaluators.proofs.ViewLaws.{count-arrays}

@@ -1,7 +1,7 @@
 -- A run, one step at a time, and what a step keeps: the laws by which the loop of a run is proved.
 -- Assumes nothing.
 use mathlib.Core.Path.{_≡_, subst}
-use Prim.Native.Nat.{ℕ, zero, suc, _-_, _≤_, _<_}
+use Prim.Native.Nat.{ℕ, zero, suc, _≤_, _<_}
 use mathlib.Core.List.{List}
 use borrow.Author.Tests.{lt-leb, le-leb}
 use Rattle.model.specs.Table.{Table}

@@ -1,7 +1,7 @@
 -- What a run says: by the verdict of its checks, and by what the loop of the run hands back.
 -- Assumes nothing.
 use mathlib.Core.Path.{_≡_, sym, ap, _∙_, subst}
-use Prim.Native.Nat.{ℕ, _-_, _≤_}
+use Prim.Native.Nat.{ℕ, _≤_}
 use native.Mathlib.Omega.{arith as numbers}
 use mathlib.Core.Bool.{Bool, true, false}
 use mathlib.Core.List.{List}

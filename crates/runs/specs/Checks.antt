@@ -5,7 +5,7 @@ use mathlib.Core.List.{List}
 use Rattle.table.specs.declared.Verdict.{Verdict}
 use Rattle.table.specs.declared.Verdict.the-variants.{Passes}
 use Rattle.table.specs.Checks.{tableCheck, andThen, sizeCheck}
-use Rattle.table.specs.Code.{countsOf}
+use Rattle.model.specs.Table.{count, isDeclaration, isNode, isRow}
 use Rattle.model.specs.State.{MachineKind, cellCount}
 use Rattle.model.specs.State.MachineKind.{plain, reduced}
 use Rattle.reduction.specs.Reduction.{placesCheck}
@@ -26,5 +26,5 @@ frameOf t classes c1 c2 = record {
   c1 = c1;
   c2 = c2;
   classes = classes;
-  counts = countsOf t;
+  counts = record { decls = count isDeclaration t; nodes = count isNode t; rows = count isRow t };
 }

@@ -56,11 +56,6 @@ module _ (f : ℕ → Found) where
       go (At j) q more = stop x (xs ++ ys) j q ∙ sym (stop x xs j q) ∙ e
       go Nothing q more = pass x (xs ++ ys) q ∙ more (sym (pass x xs q) ∙ e)
 
--- the table by the counts of its words
-pub table-by : (w : List ℕ) (c : Counts) → c ≡ countsOf w → tableBy w c ≡ tableOf w
-unfolding tableOf
-table-by w c q = ap (tableBy w) q
-
 -- 11 is the same of plain and reduced tables
 pub ten : (r : Bool) (w : List ℕ) (c : Counts) → firstOf 10 r w c ≡ first (breaks10 (tableBy w c)) 0 (length w / 4)
 unfolding breaks

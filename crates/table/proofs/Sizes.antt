@@ -36,9 +36,6 @@ pub not-false : (b : Bool) → not b ≡ false → b ≡ true
 not-false true e = refl
 not-false false e = absurd (true≢false e)
 
-both-true : (b c : Bool) → b ≡ true → c ≡ true → (b && c) ≡ true
-both-true b c e h = rw (e, h)
-
 -- ---- the sort of a kind
 
 -- a declaration, a node or a row, and only one of them

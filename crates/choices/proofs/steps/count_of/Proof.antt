@@ -1,6 +1,5 @@
 -- By what the row came to.
 -- Assumes nothing.
-use mathlib.Core.Path.{_∙_}
 use borrow.Author.Needs.{needs}
 use Rattle.choices.proofs.steps.count_of.Statement.{statement}
 use Rattle.choices.proofs.steps.count_of.Tie as tie
@@ -12,16 +11,7 @@ returns-2 : tie.Need-returns-2
 returns-2 c = rw (c .before .w2 .given .1)
 
 returns-3 : tie.Need-returns-3
-returns-3 c = c .failed-count .ensures ∙ rw (c .before .before .w3 .given .1)
+returns-3 c = rw (c .before .w3 .given .1)
 
 pub count-of-spec : {M : Type 1} → statement M
-count-of-spec =
-    tie.close
-    (tie.spec
-    (λ c. search needs)
-    (λ c. search needs)
-    (λ c. search needs)
-    (λ c κs. search needs)
-    returns
-    returns-2
-    returns-3)
+count-of-spec = tie.close (tie.spec (λ c. search needs) (λ c. search needs) (λ c. search needs) returns returns-2 returns-3)

@@ -2,7 +2,7 @@
 -- Assumes nothing.
 use Prim.Native.Nat.{ℕ, _+_, _-_, _≤_, _<_}
 use native.Mathlib.Omega.{arith}
-use mathlib.Core.Path.{_≡_, refl, sym, ap, _∙_}
+use mathlib.Core.Path.{_≡_, refl, ap, _∙_}
 use mathlib.Core.List.{List}
 use lib.ListN.{length, length-replicate}
 use Rattle.machine.specs.declared.Machine.{Machine}
@@ -10,10 +10,9 @@ use Rattle.machine.specs.declared.Move.{Move}
 use Rattle.machine.specs.declared.Worked.the-variants.{Moves}
 use Rattle.machine.specs.CodeMoves.{stepOf, cellsOf, Can, Sized}
 use Rattle.runs.proofs.ReadyLaws.{within}
-use Rattle.choices.specs.declared.steps.Numbers.the-variants.{Count}
 use Rattle.choices.specs.CodeSteps.{countOf}
 use Rattle.choices.proofs.CopyLaws.{copy-plain}
-use Rattle.choices.proofs.WriteLaws.{Left, Recorded, left-all, left-done, left-out, never-uncounted, bounds, few-numbers, inside-list}
+use Rattle.choices.proofs.WriteLaws.{Left, Recorded, left-all, left-done, left-out, bounds, few-numbers, inside-list}
 use Rattle.choices.proofs.WriteLaws.{left-full, left-stop, same-cells, left-again}
 use borrow.Author.Needs.{needs}
 use Rattle.choices.proofs.steps.write_steps.Statement.{statement}
@@ -26,7 +25,7 @@ Inv-loop t cells₀ list₀ f limit m₀ own numbers₀ held₀ at₀ steps₀ c
 abbrev μ-loop : tie.MeasureT-loop
 μ-loop t cells₀ list₀ f limit m₀ own numbers₀ held₀ at₀ steps₀ cells list m numbers held at steps = limit - steps
 
--- ---- places of the function: its start, the loop's head, and where a row is recorded, its numbers are counted and copied, and `hold` is done
+-- ---- places of the function: its start, the loop's head, and where a row is recorded, its numbers are counted and written, and `hold` is done
 abbrev Start : Type 0
 Start = tie.Start Inv-loop μ-loop
 
@@ -37,10 +36,10 @@ abbrev Recording : Type 0
 Recording = tie.After-recorded-move Inv-loop μ-loop
 
 abbrev Counting : Type 0
-Counting = tie.After-known-told Inv-loop μ-loop
+Counting = tie.After-count-of Inv-loop μ-loop
 
-abbrev Copying : Type 0
-Copying = tie.After-copy Inv-loop μ-loop
+abbrev Writing : Type 0
+Writing = tie.After-write-numbers Inv-loop μ-loop
 
 abbrev Holding : Type 0
 Holding = tie.After-hold Inv-loop μ-loop
@@ -52,13 +51,13 @@ abbrev head : Recording → Head
 head c = c .before .before .before .before .before .before .before .before .before .before .before .before .before .before .before .before .before
 
 abbrev recording : Counting → Recording
-recording c = c .before .before .before .before .before
+recording c = c .before .before
 
-abbrev counting : Copying → Counting
+abbrev counting : Writing → Counting
 counting c = c .before .before .before .before
 
-abbrev copying : Holding → Copying
-copying c = c .before .before .before .before .before .before .before .before
+abbrev writing : Holding → Writing
+writing c = c .before .before .before .before .before .before .before .before
 
 -- ---- what is known there
 sized : (c : Start) → Sized (c .args .t1)
@@ -90,14 +89,14 @@ recorded c =
       row = c .recorded-move .ensures;
     }
 
--- how many numbers the row has
+-- how many numbers the row has, and that they fit
 abbrev n : Counting → ℕ
-n c = c .before .c .given .0 .0
+n c = c .count-of .result
 
-counted : (c : Counting) → countOf (recording c .recorded-move .result) ≡ Count (n c)
-counted c = sym (c .before .before .before .count-of .ensures) ∙ c .before .c .given .1
+counted : (c : Counting) → n c ≡ countOf (recording c .recorded-move .result)
+counted c = c .count-of .ensures
 
-fits : (c : Copying) → let h = head (recording (counting c)) .loop in n (counting c) ≤ length (h .list) - h .at
+fits : (c : Writing) → let h = head (recording (counting c)) .loop in n (counting c) ≤ length (h .list) - h .at
 fits c = c .before .before .before .if3 .left
 
 -- the change that the row comes to
@@ -105,8 +104,8 @@ abbrev change : Holding → Move
 change c = c .before .before .before .before .w .given .0 .0
 
 module _ (c : Holding) {x : Move} (e : change c ≡ x) where
-  abbrev k : Copying
-  k = copying c
+  abbrev k : Writing
+  k = writing c
 
   abbrev r : Recording
   r = recording (counting k)
@@ -120,17 +119,18 @@ module _ (c : Holding) {x : Move} (e : change c ≡ x) where
   -- the step that makes it
   again : (m′ : Machine) (cells′ : List ℕ) → m′ ≡ stepOf (head r .loop .m) x → cells′ ≡ cellsOf (head r .loop .cells) x
       → let h = head r .loop in let g = start (head r) .args in
-      Left (g .t .now) (g .f) (g .list .now) (g .limit) (g .t1) (g .cells .now) m′ cells′ (k .copy .last .0) (c .hold .last .1 .0)
-      (h .at + n (counting k)) (h .steps + 1) × (length cells′ ≡ length (g .cells .now)) × (length (r .recorded-move .last .1 .1 .0) ≡ 8192)
+      Left (g .t .now) (g .f) (g .list .now) (g .limit) (g .t1) (g .cells .now) m′ cells′ (k .write-numbers .last .0) (c .hold .last .1 .0)
+      (k .write-numbers .result) (h .steps + 1) × (length cells′ ≡ length (g .cells .now)) × (length (r .recorded-move .last .1 .1 .0) ≡ 8192)
   again m′ cells′ em ec =
       let K = recorded r in
       let q = counted (counting k) in
-      (left-again K q (fits k) _ (k .copy .ensures) moves m′ cells′ em ec _ (c .hold .ensures),
-          same-cells K q (fits k) _ (k .copy .ensures) moves m′ cells′ em ec ∙ head r .loop .inv .1, K .kept)
+      let W = k .write-numbers .ensures in
+      (left-again K q (fits k) _ (W .1) moves m′ cells′ em ec _ (c .hold .ensures) (W .0),
+          same-cells K q (fits k) _ (W .1) moves m′ cells′ em ec ∙ head r .loop .inv .1, K .kept)
 
-less : (c : Holding) → let p = head (recording (counting (copying c))) in
+less : (c : Holding) → let p = head (recording (counting (writing c))) in
     start p .args .limit - (p .loop .steps + 1) < start p .args .limit - p .loop .steps
-less c = let u = recorded (recording (counting (copying c))) .more in omega arith
+less c = let u = recorded (recording (counting (writing c))) .more in omega arith
 
 -- ---- the answers
 loop-holds : tie.Need-loop-holds Inv-loop μ-loop
@@ -157,43 +157,33 @@ recorded-move-requires c κs =
 
 returns-2 : tie.Need-returns-2 Inv-loop μ-loop
 returns-2 c =
-    let p = c .before .before .before in
-    absurd (never-uncounted (recorded (p .before .before)) (sym (p .count-of .ensures) ∙ c .before .enum-told .given .1))
-
-returns-3 : tie.Need-returns-3 Inv-loop μ-loop
-returns-3 c =
     let p = c .before .before in
-    left-full (recorded (recording p)) (counted p) (c .before .if3 .taken) _ (c .wrote-to3 .ensures)
+    left-full (recorded (recording p)) (counted p) (c .before .if3 .taken) _ (c .wrote-to2 .ensures)
 
-copy-requires : tie.Need-copy-requires Inv-loop μ-loop
-copy-requires c κs =
+write-numbers-requires : tie.Need-write-numbers-requires Inv-loop μ-loop
+write-numbers-requires c κs =
     let p = c .before .before .before in
     let K = recorded (recording p) in
     (inside-list K (counted p) (c .before .before .if3 .left), few-numbers K (counted p))
 
-add-at : tie.Need-add-at Inv-loop μ-loop
-add-at c =
-    let k = c .before .before in
-    let r = recording (counting k) in
-    omega (arith, inside-list (recorded r) (counted (counting k)) (fits k), recorded r .left .size, start (head r) .good .1 .1 .1 .0 .0)
-
 stopped-requires : tie.Need-stopped-requires Inv-loop μ-loop
 stopped-requires c κs = let r = recording (counting (c .before .before .before)) in omega (arith, recorded r .more, start (head r) .fits)
 
-same-length-8 : tie.Need-same-length-8 Inv-loop μ-loop
-same-length-8 c = let k = c .before .before .before .before in k .copy .kept .0 ∙ head (recording (counting k)) .loop .inv .0 .size
+same-length-6 : tie.Need-same-length-6 Inv-loop μ-loop
+same-length-6 c = let k = c .before .before .before .before in k .write-numbers .kept .0 ∙ head (recording (counting k)) .loop .inv .0 .size
 
-returns-4 : tie.Need-returns-4 Inv-loop μ-loop
-returns-4 c =
+returns-3 : tie.Need-returns-3 Inv-loop μ-loop
+returns-3 c =
     let k = c .before .before .before .before in
-    left-stop (recorded (recording (counting k))) (counted (counting k)) (fits k) _ (k .copy .ensures) (c .before .match2 .keys2) _ (c .stopped .ensures)
+    let W = k .write-numbers .ensures in
+    left-stop (recorded (recording (counting k))) (counted (counting k)) (fits k) _ (W .1) (c .before .match .keys2) _ (rw (W .0) at (c .stopped .ensures))
 
 add-steps : tie.Need-add-steps Inv-loop μ-loop
-add-steps c = let r = recording (counting (copying c)) in omega (arith, recorded r .more, start (head r) .fits)
+add-steps c = let r = recording (counting (writing c)) in omega (arith, recorded r .more, start (head r) .fits)
 
 loop-again : tie.Need-loop-again Inv-loop μ-loop
 unfolding stepOf cellsOf
-loop-again c = again (c .before .before .before) (c .before .enum-told2 .given .1) _ _ (c .pass .ensures) refl
+loop-again c = again (c .before .before .before) (c .before .enum-told .given .1) _ _ (c .pass .ensures) refl
 
 loop-again-2 : tie.Need-loop-again-2 Inv-loop μ-loop
 unfolding stepOf cellsOf
@@ -202,7 +192,7 @@ loop-again-2 c = again (c .before .before .before .before) (c .before .before .c
 mul-cells : tie.Need-mul-cells Inv-loop μ-loop
 mul-cells c =
     let h = c .before .before .before in
-    omega (arith, can h (c .before .change2 .given .1) .1, recorded (recording (counting (copying h))) .left .ready .room)
+    omega (arith, can h (c .before .change2 .given .1) .1, recorded (recording (counting (writing h))) .left .ready .room)
 
 loop-again-3 : tie.Need-loop-again-3 Inv-loop μ-loop
 unfolding stepOf cellsOf
@@ -225,8 +215,8 @@ loop-again-6 : tie.Need-loop-again-6 Inv-loop μ-loop
 unfolding stepOf cellsOf
 loop-again-6 c = again (c .before .before .before .before) (c .before .before .change5 .given .1) _ _ (c .leave .ensures) refl
 
-returns-5 : tie.Need-returns-5 Inv-loop μ-loop
-returns-5 c = left-done (c .before .before .before .loop .inv .0) (omega (arith, c .before .if1 .left)) _ (c .wrote-to4 .ensures)
+returns-4 : tie.Need-returns-4 Inv-loop μ-loop
+returns-4 c = left-done (c .before .before .before .loop .inv .0) (omega (arith, c .before .if1 .left)) _ (c .wrote-to3 .ensures)
 
 pub write-steps-spec : {M : Type 1} → statement M
 write-steps-spec =
@@ -246,28 +236,21 @@ write-steps-spec =
     recorded-move-requires
     (λ c κs. search needs)
     (λ c. search needs)
-    (λ c. search needs)
-    (λ c κs. search needs)
-    (λ c. head (c .before .before .before .before .before) .loop .inv .1)
-    (λ c. head (c .before .before .before .before .before) .loop .inv .0 .size)
-    returns-2
-    (λ c. search needs)
     (λ c κs. search needs)
     (λ c. head (recording (c .before .before)) .loop .inv .1)
     (λ c. head (recording (c .before .before)) .loop .inv .0 .size)
-    returns-3
+    returns-2
     (λ c. search needs)
-    copy-requires
-    add-at
+    write-numbers-requires
     (λ c. search needs)
     stopped-requires
     (λ c. head (recording (counting (c .before .before .before .before))) .loop .inv .1)
-    same-length-8
-    returns-4
+    same-length-6
+    returns-3
     (λ c κs. search needs)
     add-steps
     (λ c. search needs)
-    (λ c κs. can (c .before .before) (c .enum-told2 .given .1) .0)
+    (λ c κs. can (c .before .before) (c .enum-told .given .1) .0)
     (λ c. less (c .before .before .before))
     loop-again
     (λ c. search needs)
@@ -296,4 +279,4 @@ write-steps-spec =
     (λ c κs. search needs)
     (λ c. search needs)
     (λ c. search needs)
-    returns-5)
+    returns-4)

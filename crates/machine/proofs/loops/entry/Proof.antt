@@ -1,6 +1,5 @@
 -- By whether the iterator takes the start, whether the loop is entered, and the way out.
 -- Assumes nothing.
-use mathlib.Core.Path.{sym, _∙_}
 use borrow.Author.Tests.{le-leb, lt-leb}
 use Rattle.machine.specs.CodeRows.{entryOf}
 use Rattle.machine.proofs.LoopLaws.{way-near}

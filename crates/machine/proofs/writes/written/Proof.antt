@@ -1,6 +1,6 @@
 -- By which row it is.
 -- Assumes nothing.
-use Rattle.evaluators.specs.CodeAnswers.{arraysOf}
+use Rattle.prepared.specs.View.{arraysOf}
 use Rattle.machine.proofs.WriteLaws.{written-40, written-34}
 use borrow.Author.Needs.{needs}
 use Rattle.machine.proofs.writes.written.Statement.{statement}

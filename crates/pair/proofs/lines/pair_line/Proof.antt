@@ -6,19 +6,13 @@ use borrow.Author.Needs.{needs}
 use Rattle.pair.proofs.lines.pair_line.Statement.{statement}
 use Rattle.pair.proofs.lines.pair_line.Tie as tie
 
-array-borrow-prefix-lent : tie.Need-array-borrow-prefix-lent
-array-borrow-prefix-lent c = search needs
-
 slice-aggregate-reduced-line : tie.Need-slice-aggregate-reduced-line
 slice-aggregate-reduced-line c = simp length-take (omega arith)
 
 reduced-line-requires : tie.Need-reduced-line-requires
 reduced-line-requires c κs = (c .before .before .before .pre .0, c .before .before .before .pre .1, simp length-take (omega arith))
 
-returns : tie.Need-returns
-returns c = search needs
-
 pub pair-line-spec : {M : Type 1} → statement M
 pair-line-spec =
     tie.close
-    (tie.spec array-borrow-prefix-lent slice-aggregate-reduced-line reduced-line-requires returns)
+    (tie.spec (λ c. search needs) slice-aggregate-reduced-line reduced-line-requires (λ c. search needs))

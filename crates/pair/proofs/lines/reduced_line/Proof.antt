@@ -6,21 +6,6 @@ use borrow.Author.Needs.{needs}
 use Rattle.pair.proofs.lines.reduced_line.Statement.{statement}
 use Rattle.pair.proofs.lines.reduced_line.Tie as tie
 
-reduce-table-requires : tie.Need-reduce-table-requires
-reduce-table-requires c κs = search needs
-
-slice-aggregate-run-reduced : tie.Need-slice-aggregate-run-reduced
-slice-aggregate-run-reduced c = search needs
-
-run-reduced-requires : tie.Need-run-reduced-requires
-run-reduced-requires c κs = search needs
-
-line-of-requires : tie.Need-line-of-requires
-line-of-requires c κs = search needs
-
-same-length : tie.Need-same-length
-same-length c = search needs
-
 returns : tie.Need-returns
 returns c =
     let g = c .before .before .before .before .before .before .before .before .before .before .before .before .before .args in
@@ -34,9 +19,9 @@ pub reduced-line-spec : {M : Type 1} → statement M
 reduced-line-spec =
     tie.close
     (tie.spec
-    reduce-table-requires
-    slice-aggregate-run-reduced
-    run-reduced-requires
-    line-of-requires
-    same-length
+    (λ c κs. search needs)
+    (λ c. search needs)
+    (λ c κs. search needs)
+    (λ c κs. search needs)
+    (λ c. search needs)
     returns)

@@ -8,30 +8,6 @@ use borrow.Author.Needs.{needs}
 use Rattle.pair.proofs.tables.run_file.Statement.{statement}
 use Rattle.pair.proofs.tables.run_file.Tie as tie
 
-slice-aggregate-read-file : tie.Need-slice-aggregate-read-file
-slice-aggregate-read-file c = search needs
-
-read-file-requires : tie.Need-read-file-requires
-read-file-requires c κs = search needs
-
-enum-known-found : tie.Need-enum-known-found
-enum-known-found c = search needs
-
-cast-t14 : tie.Need-cast-t14
-cast-t14 c = search needs
-
-refused-requires : tie.Need-refused-requires
-refused-requires c κs = search needs
-
-enum-known-found-2 : tie.Need-enum-known-found-2
-enum-known-found-2 c = search needs
-
-cast-end : tie.Need-cast-end
-cast-end c = search needs
-
-mul-end : tie.Need-mul-end
-mul-end c = search needs
-
 array-share-prefix-words : tie.Need-array-share-prefix-words
 array-share-prefix-words c = let k = c .before .before .before .before .read-file .ensures in
     omega (arith, lines-fit (c .before .before .before .before .before .before .before .args .file .now) _ (c .before .before .before .before .read-file
@@ -65,14 +41,14 @@ pub run-file-spec : {M : Type 1} → statement M
 run-file-spec =
     tie.close
     (tie.spec
-    slice-aggregate-read-file
-    read-file-requires
-    enum-known-found
-    cast-t14
-    refused-requires
-    enum-known-found-2
-    cast-end
-    mul-end
+    (λ c. search needs)
+    (λ c κs. search needs)
+    (λ c. search needs)
+    (λ c. search needs)
+    (λ c κs. search needs)
+    (λ c. search needs)
+    (λ c. search needs)
+    (λ c. search needs)
     array-share-prefix-words
     slice-aggregate-run-table
     run-table-requires

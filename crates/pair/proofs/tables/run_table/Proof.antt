@@ -8,23 +8,8 @@ use borrow.Author.Needs.{needs}
 use Rattle.pair.proofs.tables.run_table.Statement.{statement}
 use Rattle.pair.proofs.tables.run_table.Tie as tie
 
-slice-aggregate-write-choices : tie.Need-slice-aggregate-write-choices
-slice-aggregate-write-choices c = search needs
-
-slice-aggregate-write-choices-2 : tie.Need-slice-aggregate-write-choices-2
-slice-aggregate-write-choices-2 c = search needs
-
-write-choices-requires : tie.Need-write-choices-requires
-write-choices-requires c κs = search needs
-
 enum-told : tie.Need-enum-told
 enum-told c = search needs
-
-enum-told-2 : tie.Need-enum-told-2
-enum-told-2 c = search needs
-
-refused-requires : tie.Need-refused-requires
-refused-requires c κs = search needs
 
 returns : tie.Need-returns
 returns c =
@@ -71,12 +56,12 @@ pub run-table-spec : {M : Type 1} → statement M
 run-table-spec =
     tie.close
     (tie.spec
-    slice-aggregate-write-choices
-    slice-aggregate-write-choices-2
-    write-choices-requires
+    (λ c. search needs)
+    (λ c. search needs)
+    (λ c κs. search needs)
     enum-told
-    enum-told-2
-    refused-requires
+    (λ c. search needs)
+    (λ c κs. search needs)
     returns
     plain-of-requires
     array-share-prefix-list

@@ -7,29 +7,14 @@ use borrow.Author.Needs.{needs}
 use Rattle.runs.proofs.continued.continued_run.Statement.{statement}
 use Rattle.runs.proofs.continued.continued_run.Tie as tie
 
-check-run-requires : tie.Need-check-run-requires
-check-run-requires c κs = search needs
-
 enum-told : tie.Need-enum-told
 enum-told c = search needs
-
-enum-told-2 : tie.Need-enum-told-2
-enum-told-2 c = search needs
-
-refused-requires : tie.Need-refused-requires
-refused-requires c κs = search needs
-
-same-length : tie.Need-same-length
-same-length c = search needs
 
 returns : tie.Need-returns
 returns c =
     let g = c .before .before .before .before .before .before .before .before .args in
     continued-refused (g .t .now) (g .classes) (g .c1) (g .c2) (g .list .now) (g .cells .now) (g .limit) _ (c .before .before .before .check-run .ensures) (c
         .refused .result) (g .m) (c .before .enum-told2 .given .1) (c .refused .ensures)
-
-frame-of-requires : tie.Need-frame-of-requires
-frame-of-requires c κs = search needs
 
 record-fits-requires : tie.Need-record-fits-requires
 record-fits-requires c κs =
@@ -44,9 +29,6 @@ run-from-requires c κs =
         .before .before .before .before .before .enum-told .given .1) (c .before .before .before .before .frame-of .ensures) (g .m) (sym (c .before .before
         .record-fits .ensures) ∙ c .before .if1 .taken)
 
-same-length-2 : tie.Need-same-length-2
-same-length-2 c = search needs
-
 returns-2 : tie.Need-returns-2
 returns-2 c =
     let g = c .before .before .before .before .before .before .before .before .before .before .before .before .before .before .before .args in
@@ -54,12 +36,6 @@ returns-2 c =
         .before .before .before .before .check-run .ensures) (c .before .before .before .before .before .before .before .before .enum-told .given .1) _ (c
         .before .before .before .before .before .before .before .frame-of .ensures) _ (c .before .before .run-from .result) _ refl refl (g .m) (sym (c
         .before .before .before .before .before .record-fits .ensures) ∙ c .before .before .before .before .if1 .taken) (c .before .before .run-from .ensures)
-
-refused-requires-2 : tie.Need-refused-requires-2
-refused-requires-2 c κs = search needs
-
-same-length-3 : tie.Need-same-length-3
-same-length-3 c = search needs
 
 returns-3 : tie.Need-returns-3
 returns-3 c =
@@ -72,17 +48,17 @@ pub continued-run-spec : {M : Type 1} → statement M
 continued-run-spec =
     tie.close
     (tie.spec
-    check-run-requires
+    (λ c κs. search needs)
     enum-told
-    enum-told-2
-    refused-requires
-    same-length
+    (λ c. search needs)
+    (λ c κs. search needs)
+    (λ c. search needs)
     returns
-    frame-of-requires
+    (λ c κs. search needs)
     record-fits-requires
     run-from-requires
-    same-length-2
+    (λ c. search needs)
     returns-2
-    refused-requires-2
-    same-length-3
+    (λ c κs. search needs)
+    (λ c. search needs)
     returns-3)

@@ -7,20 +7,8 @@ use borrow.Author.Needs.{needs}
 use Rattle.runs.proofs.fresh.fresh_run.Statement.{statement}
 use Rattle.runs.proofs.fresh.fresh_run.Tie as tie
 
-check-run-requires : tie.Need-check-run-requires
-check-run-requires c κs = search needs
-
 enum-told : tie.Need-enum-told
 enum-told c = search needs
-
-enum-told-2 : tie.Need-enum-told-2
-enum-told-2 c = search needs
-
-refused-requires : tie.Need-refused-requires
-refused-requires c κs = search needs
-
-same-length : tie.Need-same-length
-same-length c = search needs
 
 returns : tie.Need-returns
 returns c =
@@ -28,17 +16,11 @@ returns c =
     fresh-refused (g .t .now) (g .classes) (g .c1) (g .c2) (g .list .now) (g .cells .now) (g .limit) _ (c .before .before .before .check-run .ensures) (c
         .refused .result) (c .before .enum-told2 .given .1) (c .refused .ensures)
 
-frame-of-requires : tie.Need-frame-of-requires
-frame-of-requires c κs = search needs
-
 start-requires : tie.Need-start-requires
 start-requires c κs =
     let g = c .before .before .before .before .before .before .before .before .before .args in
     lends (g .t .now) (g .cells .now) (g .classes) (g .c1) (g .c2) (c .before .before .before .before .check-run .ensures) (c .before .before .enum-told
         .given .1) (c .before .frame-of .ensures)
-
-same-length-2 : tie.Need-same-length-2
-same-length-2 c = search needs
 
 returns-2 : tie.Need-returns-2
 returns-2 c =
@@ -51,13 +33,13 @@ pub fresh-run-spec : {M : Type 1} → statement M
 fresh-run-spec =
     tie.close
     (tie.spec
-    check-run-requires
+    (λ c κs. search needs)
     enum-told
-    enum-told-2
-    refused-requires
-    same-length
+    (λ c. search needs)
+    (λ c κs. search needs)
+    (λ c. search needs)
     returns
-    frame-of-requires
+    (λ c κs. search needs)
     start-requires
-    same-length-2
+    (λ c. search needs)
     returns-2)

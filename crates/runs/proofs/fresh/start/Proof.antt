@@ -5,9 +5,6 @@ use borrow.Author.Needs.{needs}
 use Rattle.runs.proofs.fresh.start.Statement.{statement}
 use Rattle.runs.proofs.fresh.start.Tie as tie
 
-zero-all-requires : tie.Need-zero-all-requires
-zero-all-requires c κs = search needs
-
 fresh-requires : tie.Need-fresh-requires
 fresh-requires c κs =
     let g = c .before .before .before .before .before .before .before .args in
@@ -19,9 +16,6 @@ run-from-requires c κs =
     ready-fresh (g .t .now) (g .f) (g .cells .now) (c .before .before .before .before .before .before .before .before .before .pre) _ _ (c .before .fresh
         .ensures) (c .before .before .before .before .zero-all .ensures)
 
-same-length : tie.Need-same-length
-same-length c = search needs
-
 returns : tie.Need-returns
 returns c =
     let g = c .before .before .before .before .before .before .before .before .before .before .before .before .args in
@@ -31,4 +25,4 @@ returns c =
 
 pub start-spec : {M : Type 1} → statement M
 start-spec =
-    tie.close (tie.spec zero-all-requires fresh-requires run-from-requires same-length returns)
+    tie.close (tie.spec (λ c κs. search needs) fresh-requires run-from-requires (λ c. search needs) returns)

@@ -9,15 +9,6 @@ use Rattle.runs.proofs.loops.met.Tie as tie
 returns : tie.Need-returns
 returns c = met-none _ _ _ (c .if1 .taken)
 
-sub-last : tie.Need-sub-last
-sub-last c = search needs
-
-word-or-zero-requires : tie.Need-word-or-zero-requires
-word-or-zero-requires c κs = search needs
-
-cast-if2 : tie.Need-cast-if2
-cast-if2 c = search needs
-
 returns-2 : tie.Need-returns-2
 returns-2 c = met-on _ _ _ (omega (arith, c .before .before .if1 .left)) (c .before .word-or-zero .ensures) (c .if2 .taken)
 
@@ -25,4 +16,4 @@ returns-3 : tie.Need-returns-3
 returns-3 c = met-off _ _ _ (omega (arith, c .before .before .if1 .left)) (c .before .word-or-zero .ensures) (c .if2 .left)
 
 pub met-spec : {M : Type 1} → statement M
-met-spec = tie.close (tie.spec returns sub-last word-or-zero-requires cast-if2 returns-2 returns-3)
+met-spec = tie.close (tie.spec returns (λ c. search needs) (λ c κs. search needs) (λ c. search needs) returns-2 returns-3)

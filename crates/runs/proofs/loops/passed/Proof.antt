@@ -6,20 +6,11 @@ use borrow.Author.Needs.{needs}
 use Rattle.runs.proofs.loops.passed.Statement.{statement}
 use Rattle.runs.proofs.loops.passed.Tie as tie
 
-met-requires : tie.Need-met-requires
-met-requires c κs = search needs
-
 returns : tie.Need-returns
 returns c = walk-met _ _ _ _ _ _ (c .before .before .if1 .taken) (c .before .if2 .taken) (c .met .ensures)
 
-sub-t8 : tie.Need-sub-t8
-sub-t8 c = search needs
-
 returns-2 : tie.Need-returns-2
 returns-2 c = walk-inner _ _ _ _ _ (c .before .if1 .taken) (omega (arith, c .if2 .left))
-
-add-t9 : tie.Need-add-t9
-add-t9 c = search needs
 
 returns-3 : tie.Need-returns-3
 returns-3 c = walk-closed _ _ _ _ _ (c .if3 .taken)
@@ -28,4 +19,4 @@ returns-4 : tie.Need-returns-4
 returns-4 c = walk-past _ _ _ _ _ (c .before .if1 .left) (c .if3 .left)
 
 pub passed-spec : {M : Type 1} → statement M
-passed-spec = tie.close (tie.spec met-requires returns sub-t8 returns-2 add-t9 returns-3 returns-4)
+passed-spec = tie.close (tie.spec (λ c κs. search needs) returns (λ c. search needs) returns-2 (λ c. search needs) returns-3 returns-4)

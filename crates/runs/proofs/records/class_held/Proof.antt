@@ -1,6 +1,5 @@
 -- The candidate is a number of 32 bits, and has the class; or it is too large.
 -- Assumes nothing.
-use mathlib.Core.Path.{_≡_, sym, _∙_}
 use Rattle.runs.proofs.RecordCodeLaws.{held-not, held-by}
 use borrow.Author.Needs.{needs}
 use Rattle.runs.proofs.records.class_held.Statement.{statement}

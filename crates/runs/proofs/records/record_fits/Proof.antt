@@ -9,14 +9,8 @@ use Rattle.runs.proofs.records.record_fits.Tie as tie
 
 -- Condition by condition, in the definition's order.
 
-cast-if1 : tie.Need-cast-if1
-cast-if1 c = search needs
-
 returns : tie.Need-returns
 returns c = let g = c .before .before .before .before .before .args in fits-row (g .t .now) (g .cells .now) (g .f) (g .m) (c .if1 .taken)
-
-loops-around-requires : tie.Need-loops-around-requires
-loops-around-requires c κs = search needs
 
 returns-2 : tie.Need-returns-2
 returns-2 c =
@@ -24,17 +18,11 @@ returns-2 c =
     fits-around (g .t .now) (g .cells .now) (g .f) (g .m) (omega (arith, c .before .before .if1 .left)) (c .before .loops-around .ensures) (not-true _ (c
         .if2 .taken))
 
-starts-within-requires : tie.Need-starts-within-requires
-starts-within-requires c κs = search needs
-
 returns-3 : tie.Need-returns-3
 returns-3 c =
     let g = c .before .before .before .before .before .before .before .before .before .args in
     fits-starts (g .t .now) (g .cells .now) (g .f) (g .m) (omega (arith, c .before .before .before .before .if1 .left)) (c .before .before .before
         .loops-around .ensures) (not-false _ (c .before .before .if2 .left)) (c .before .starts-within .ensures) (not-true _ (c .if3 .taken))
-
-variables-fit-requires : tie.Need-variables-fit-requires
-variables-fit-requires c κs = search needs
 
 returns-4 : tie.Need-returns-4
 returns-4 c =
@@ -42,9 +30,6 @@ returns-4 c =
     fits-variables (g .t .now) (g .cells .now) (g .f) (g .m) (omega (arith, c .before .before .before .before .before .before .if1 .left)) (c .before .before
         .before .before .before .loops-around .ensures) (not-false _ (c .before .before .before .before .if2 .left)) (c .before .before .before
         .starts-within .ensures) (not-false _ (c .before .before .if3 .left)) (c .before .variables-fit .ensures) (not-true _ (c .if4 .taken))
-
-arrays-fit-requires : tie.Need-arrays-fit-requires
-arrays-fit-requires c κs = search needs
 
 returns-5 : tie.Need-returns-5
 returns-5 c =
@@ -58,13 +43,13 @@ pub record-fits-spec : {M : Type 1} → statement M
 record-fits-spec =
     tie.close
     (tie.spec
-    cast-if1
+    (λ c. search needs)
     returns
-    loops-around-requires
+    (λ c κs. search needs)
     returns-2
-    starts-within-requires
+    (λ c κs. search needs)
     returns-3
-    variables-fit-requires
+    (λ c κs. search needs)
     returns-4
-    arrays-fit-requires
+    (λ c κs. search needs)
     returns-5)

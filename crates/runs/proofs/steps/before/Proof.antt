@@ -8,13 +8,10 @@ use borrow.Author.Needs.{needs}
 use Rattle.runs.proofs.steps.before.Statement.{statement}
 use Rattle.runs.proofs.steps.before.Tie as tie
 
-returns : tie.Need-returns
-returns c = search needs
-
 returns-2 : tie.Need-returns-2
 returns-2 c =
     let l = c .before .args .list .now in
     (omega arith, drop-past l (length l) (omega arith) ∙ sym (drop-past l (c .before .args .at) (omega (arith, c .if1 .left))))
 
 pub before-spec : {M : Type 1} → statement M
-before-spec = tie.close (tie.spec returns returns-2)
+before-spec = tie.close (tie.spec (λ c. search needs) returns-2)

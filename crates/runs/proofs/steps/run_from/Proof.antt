@@ -5,15 +5,6 @@ use borrow.Author.Needs.{needs}
 use Rattle.runs.proofs.steps.run_from.Statement.{statement}
 use Rattle.runs.proofs.steps.run_from.Tie as tie
 
-run-steps-requires : tie.Need-run-steps-requires
-run-steps-requires c κs = search needs
-
-before-requires : tie.Need-before-requires
-before-requires c κs = search needs
-
-same-length : tie.Need-same-length
-same-length c = search needs
-
 returns : tie.Need-returns
 returns c =
     let g = c .before .before .before .before .before .before .before .before .before .args in
@@ -21,4 +12,4 @@ returns c =
         .ensures) (c .before2 .result) (c .before2 .ensures)
 
 pub run-from-spec : {M : Type 1} → statement M
-run-from-spec = tie.close (tie.spec run-steps-requires before-requires same-length returns)
+run-from-spec = tie.close (tie.spec (λ c κs. search needs) (λ c κs. search needs) (λ c. search needs) returns)
