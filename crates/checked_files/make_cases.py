@@ -1,8 +1,9 @@
 #!/usr/bin/env python3
 """Writes stdin and stdout of this program: cases of files, each after its length, and what must be printed of each.
 
-Run as: make_cases.py VECTORS, the folder of vectors for `pairrun`, cases.bin and index.txt, which is handed out beside document 01. The
-first cases are worked out here, by hand, from document 01; the others are the vectors that are refused, with their output, and the shorter ones that are not, which pass.
+Run as: make_cases.py VECTORS, the folder of the vectors for `pairrun`, cases.bin and index.txt, which were handed out with the demands. The
+first cases are worked out here, by hand, from docs/RULES.md; the others are the vectors that are refused, with their output, and the
+shorter ones that are not, which pass.
 """
 import pathlib
 import struct
@@ -104,7 +105,7 @@ passes(worst())
 passes(loops(8))
 refused(loops(9), 11, 10)
 passes(T)
-# each rule
+# each check
 refused([SKIP, (31, 0, 0, 0)], 5, 1)
 refused([(0, 0, 0, 0)], 5, 0)
 refused([(27, 0, 0, 0)], 5, 0)

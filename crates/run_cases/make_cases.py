@@ -10,9 +10,8 @@ choices not yet used. Its edits change that record, or the cells, before it runs
 A line has the end or the refusal, and check numbers: h = 0, then h * 31 + word modulo 2^32 for each word of the cells, and for each word
 of the record's parts in use (record_check).
 
-The lines come from the interpreter below, which is written from document 01 and from the readings R1 to R28 of it (docs/DECISIONS.md).
-It takes tables that pass: the number and line of a refused table are given with the case. The document's own examples are held to
-what it says of them.
+The lines come from the interpreter below, which is written from the rules (docs/RULES.md). It takes tables that pass: the number and line
+of a refused table are given with the case. The examples of section 8 of the rules are held to what it says of them.
 """
 import pathlib
 import random
@@ -349,7 +348,7 @@ def lines_of(machine, table, pair, lent, choices, runs, refusal):
 
 
 def case(machine, lines, runs, pair=(1, 3), choices=(), lent=None, refusal=None, words=None, expect=None):
-    """Adds a case: lines of the machine's own table. A run is a limit, or a limit and edits. What the document says of it may be given."""
+    """Adds a case: lines of the machine's own table. A run is a limit, or a limit and edits. What the rules say of it may be given."""
     table = Table(lines)
     runs = [run if isinstance(run, tuple) else (run, []) for run in runs]
     lent = CELLS[machine] if lent is None else lent
@@ -414,7 +413,7 @@ T += [(37, 1, 0, 0), (38, 0, 1, 2), (34, 5, 6, 0), (35, 8, 0, 0), CLOSE]
 
 
 def document():
-    """The document's examples of runs."""
+    """The examples of runs in section 8 of the rules."""
     plain(T, 100, expect="done row 5 steps 17 choices 0")
     reduced(T, 100, choices=written(T, (1, 3), 100), expect="done row 5 steps 17 choices 30")
     reduced(T, 100, choices=[0, 4, 0, 0, 0, 9], expect="assert row 3 steps 4 choices 6")

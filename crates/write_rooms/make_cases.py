@@ -1,5 +1,5 @@
 #!/usr/bin/env python3
-"""Writes stdout of this program, from the interpreter of `run_cases`, which is written from document 01."""
+"""Writes stdout of this program, from the interpreter of `run_cases`, which is written from docs/RULES.md."""
 import pathlib
 import sys
 

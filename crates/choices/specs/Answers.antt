@@ -32,10 +32,10 @@ abbrev pub numbersOf : Report → List ℕ
 numbersOf (ended e n s xs) = xs
 numbersOf noEnd = []
 
--- "the rest of the list is kept"
+-- the numbers, and after them the list as it was lent (rule 4.10)
 abbrev pub wroteSaid : List ℕ → Report → Said
 wroteSaid lent report = writes report (length (numbersOf report)) (numbersOf report ++ drop (length (numbersOf report)) lent)
 
--- "The choice writer runs the plain table fresh"; a refusal leaves cells and list as they were lent
+-- a fresh run of the plain table (rule 4.5); a refusal leaves cells and list as they were lent (rule 6.4)
 unfoldable pub writerSaid : List ℕ → List ℕ → List ℕ → List ℕ → ℕ → Said
 writerSaid ps t cells lent limit = saidBy (writerChecks ps t (length cells)) cells lent (wroteSaid lent (writerRun ps t limit (length lent)))

@@ -30,7 +30,7 @@ pub record Begins (t : List ℕ) (f : Frame) (m : Machine) (cells : List ℕ) : 
   pub shallow : (n : ℕ) → n < f .counts .nodes → depth (tableFor t f) n ≤ mostDepth
   pub none : m .count ≡ 0
 
--- ---- which arrays the reduced run holds reduced (R28): what is kept of the array that a row makes, at the place of the next array
+-- ---- which arrays the reduced run holds reduced (rule 4.7): what is kept of the array that a row makes, at the place of the next array
 abbrev pub flagOf : List ℕ → ℕ → ℕ
 flagOf own row = if markedPointer (ownTable own) (rowAt (ownTable own) row .a) then 1 else 0
 
@@ -43,14 +43,14 @@ countOf (Moves x n) = n
 countOf (Ends e n) = n
 countOf (Not why n) = n
 
--- A row that does not go on, after n steps, with the numbers up to `at` written: "A step that ends a run counts"; "its used choices count".
+-- A row that does not go on, after n steps, with the numbers up to `at` written: it counts, and so do they (rule 2.29).
 -- A plain step takes no choice and is never stuck, and none that goes on is asked of, so what stands for those is never handed back.
 abbrev pub stoppedOf : Worked → ℕ → ℕ → Machine → Ran
 stoppedOf (Moves x next) n at m = ran Code.Fail (suc n) at m
 stoppedOf (Ends e next) n at m = ran e (suc n) at m
 stoppedOf (Not why next) n at m = ran Code.Fail (suc n) at m
 
--- what is handed back is a report; its numbers are in the list, and "the rest of the list is kept"
+-- what is handed back is a report; its numbers are in the list, which is otherwise as it was lent (rule 4.10)
 pub record Writes (t : List ℕ) (f : Frame) (r : Ran) (cells list lent : List ℕ) (said : Report) : Type 0 where
   pub report : reportOf t f r cells list ≡ said
   pub within : r .used ≤ length list

@@ -22,8 +22,7 @@ use Rattle.runs.specs.Promises.{SaysRight}
 use Rattle.choices.specs.Answers.{wroteSaid, writerSaid}
 use Rattle.choices.specs.Answers.Said.{refusal, writes}
 
--- what a plain and a reduced run say: "End, row and steps are those that both runs report. The last states agree, and with that the tracked
--- cells are equal." "the reduced run reports as many choices used as it has numbers"
+-- what a plain and a reduced run say: the same end, row and steps, states that agree, and the whole list used (rule 10.8)
 pub record SayMatched (ps P list : List ℕ) (plainSays reducedSays : Said) : Type 0 where
   pub plainReport : Report
   pub reducedReport : Report
@@ -43,7 +42,7 @@ pub record SaysFull (ps P : List ℕ) (limit : ℕ) (cells lent : List ℕ) : Ty
 -- is a choice list under which a fresh run of Q with that limit uses exactly that list and ends the same way, at the same row, after as many
 -- steps, with both tracked circuits' cells equal; the tool writes that list whenever the room it is lent holds it, and ends with "list full"
 -- exactly when the room is shorter than the list."
--- Here of any accepted places: "both tracked circuits' cells" are those of each tracked place.
+-- Demand 3 (rule 10.5), here of any accepted places: "both tracked circuits' cells" are those of each tracked place.
 pub record Demand3 (ps P : List ℕ) : Type 0 where
   -- `reduce_table` makes Q of P in a buffer as long, and Q passes
   pub reduces : (lent : List ℕ) → length lent ≡ length P → (reduceAnswer P ps (length lent) ≡ Passes) × (reduceBuffer P ps lent ≡ reduce P)
@@ -65,16 +64,15 @@ pub record Demand3 (ps P : List ℕ) : Type 0 where
       (freshSaid reduced ps (reduce P) reducedCells (choiceList ps P limit) limit)
   -- the list is one that `run_reduced` can be lent: its numbers are of 32 bits, as P's words are
   pub numbers : Numbers P → (limit : ℕ) → Numbers (choiceList ps P limit)
-  -- "in a count of 64 bits", for a limit of 32 bits
+  -- the count fits 64 bits, for a limit of 32 bits (rule 10.8)
   pub counted : (limit : ℕ) → limit ≤ most → length (choiceList ps P limit) < 2 ^ 64
-  -- what `write_choices` says: 14 for cells of another size; "With room for it the writer ends as the plain run does."
+  -- what `write_choices` says: 14 for cells of another size; with room for the list, the end of the plain run (rules 4.11, 10.9)
   pub otherSize : (limit : ℕ) (cells lent : List ℕ) → length cells ≢ cellCount plain → writerSaid ps P cells lent limit ≡ refusal 14 0 cells lent
   pub fits : (limit : ℕ) (cells lent : List ℕ) → length cells ≡ cellCount plain → length (choiceList ps P limit) ≤ length lent
       → writerSaid ps P cells lent limit
       ≡ writes (withNumbers (choiceList ps P limit) (plainRun P limit)) (length (choiceList ps P limit))
       (choiceList ps P limit ++ drop (length (choiceList ps P limit)) lent)
-  -- "ends with "list full" exactly when the room is shorter than the list"; "A step whose choices don't all fit is not taken; the rest of
-  -- the list is kept." (R23)
+  -- "ends with "list full" exactly when the room is shorter than the list" (demand 3; rules 4.8 to 4.10)
   pub full : (limit : ℕ) (cells lent : List ℕ) → length cells ≡ cellCount plain → length lent < length (choiceList ps P limit)
       → SaysFull ps P limit cells lent
 

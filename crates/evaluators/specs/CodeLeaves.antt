@@ -35,7 +35,7 @@ pub record HoldsFor (w : Ty) (own ns : List ℕ) (a at : ℕ) (r : Answer) : Typ
 pub record HoldsPointer (own ns bs : List ℕ) (count a at : ℕ) (r : Answer) : Type 0 where
   pub held : (l : List ℕ) → Answers pointer l r (heldFor (ownVars own ns bs) count a pointer (drop at l))
 
--- 27: "one choice in the iterator's class; it is the value"
+-- 27 (rule 3.13)
 unfoldable pub classIn : List ℕ → List Value → ℕ → Work ℕ
 classIn ps vs a = inClass ps vs a
 
@@ -56,7 +56,7 @@ unfoldable pub storedIn : List ℕ → ℕ → ℕ → ℕ → Work ℕ
 storedIn cells start size i =
     if ltb i size then (if ltb (start + i) (length cells) then give (getD cells (start + i) 0) else wrong) else wrong
 
--- 28: "a tracked place reads the cell of its class; any other takes one choice, any number"
+-- 28, of a reduced array (rule 3.15)
 unfoldable pub trackedIn : List ℕ → List ℕ → ℕ → ℕ → ℕ → Work ℕ
 trackedIn ps cells start len p = if tracked ps p then storedIn cells start (class ps len) (class ps p) else choose (λ v. true)
 
@@ -73,7 +73,7 @@ loadOf m ps rs cells p = do
   r ← arrayOf rs (p .array)
   if ltb (p .place) (r .len) then readOf m ps cells (r .start) (r .len) (r .reduced) (p .place) else fail
 
--- 26 and 29: "is true when there is an array and the place is below its length"
+-- 26 and 29 (rules 2.15, 3.16)
 unfoldable pub validIn : List Array → ℕ → ℕ → Work Bool
 validIn rs r p = isValid rs r p
 

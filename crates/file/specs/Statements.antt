@@ -17,7 +17,7 @@ use Rattle.table.specs.Checks.{tableCheck}
 abbrev pub AllBelow : ℕ → List ℕ → Type 0
 AllBelow n xs = (i : ℕ) → getD xs i 0 < n
 
--- a written file reads back as its table: "The reader fills 5,248 words"
+-- a written file reads back as its table, in a buffer of 5,248 words (rules 5.9, 5.11)
 abbrev pub ReadBack : Type 0
 ReadBack =
     (ws : List ℕ) → AllBelow (2 ^ 32) ws → length ws % 4 ≡ 0 → length ws ≤ 5248 → (buffer : List ℕ) → length buffer ≡ 5248
@@ -35,13 +35,13 @@ OneFile =
     (bs cs : List ℕ) → AllBelow 256 bs → AllBelow 256 cs → (buffer : List ℕ) (n : ℕ) → readAnswer bs (length buffer) ≡ Lines n
     → readAnswer cs (length buffer) ≡ Lines n → readBuffer bs buffer ≡ readBuffer cs buffer → bs ≡ cs
 
--- demand 2, of the two public functions: "A written file reads back as its table"
+-- demand 2, of the two public functions: "a written program file reads back as its table" (rule 5.11)
 abbrev pub WrittenReadsBack : Type 0
 WrittenReadsBack =
     (w : List ℕ) → AllBelow (2 ^ 32) w → (out : List ℕ) (n : ℕ) → writeAnswer w (length out) ≡ Bytes n → (buffer : List ℕ) → length buffer ≡ 5248
     → (readAnswer (take n (writeBuffer w out)) (length buffer) ≡ Lines (linesIn w)) × (readBuffer (take n (writeBuffer w out)) buffer ≡ padded 5248 w)
 
--- demand 2: "a read file whose table passes is written again byte for byte"
+-- demand 2: "a read file whose table passes is written again byte for byte" (rule 5.11)
 abbrev pub ReadIsWrittenAgain : Type 0
 ReadIsWrittenAgain =
     (bs : List ℕ) → AllBelow 256 bs → (buffer : List ℕ) (n : ℕ) → readAnswer bs (length buffer) ≡ Lines n

@@ -1,4 +1,4 @@
--- Words of four bytes, the lowest first ("little-endian words").
+-- Words of four bytes, the lowest first (rule 5.2).
 use Prim.Native.Nat.{ℕ, _+_, _*_, _/_, _%_, _^_}
 use mathlib.Core.List.{List}
 use lib.ListN.{getD, set}

@@ -1,5 +1,5 @@
 -- What the writer answers for any table, and the bytes that it leaves in the buffer lent.
--- "The writer takes a table that passes 4 to 12."
+-- It takes a plain table that passes (rule 5.10).
 use Prim.Native.Nat.{ℕ}
 use mathlib.Core.List.{List}
 use lib.ListN.{length}
@@ -12,7 +12,7 @@ use Rattle.file.specs.declared.Written.{Written}
 use Rattle.file.specs.declared.Written.the-variants.{Bytes, Refused as NotWritten}
 use Rattle.file.specs.Layout.{fileBytes}
 
--- 4 to 12, then 14: "bytes not the stated size" (R12)
+-- 4 to 12, then 14 (rule 6.21)
 unfoldable pub writeCheck : List ℕ → ℕ → Verdict
 writeCheck w size = andThen (tableCheck plain w) (sizeCheck size 22016)
 
@@ -24,7 +24,7 @@ writtenAs (Refused number place) n = NotWritten number place
 abbrev pub writeAnswer : List ℕ → ℕ → Written
 writeAnswer w size = writtenAs (writeCheck w size) (length (fileBytes w))
 
--- "The reader fills 5,248 words and the writer 22,016 bytes, the rest zero"; a refusal leaves the buffer as it was
+-- the file and zeros after it (rule 5.10); a refusal leaves the buffer as it was (rule 6.4)
 abbrev pub filledAs : Verdict → List ℕ → List ℕ → List ℕ
 filledAs Passes w buffer = padded 22016 (fileBytes w)
 filledAs (Refused number place) w buffer = buffer

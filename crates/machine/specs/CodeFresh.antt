@@ -14,7 +14,7 @@ use Rattle.prepared.specs.View.{kindOf, places, tableFor, formIn}
 use Rattle.machine.specs.declared.Machine.{Machine}
 use Rattle.machine.specs.CodeMoves.{columns}
 
--- "Variables start at 0, false, or the pointer with no array and place 0"; "A marked iterator holds a class, at first that of 0."
+-- what a variable holds at first, by its form (rules 2.5, 3.6)
 abbrev pub startByForm : List ℕ → Form → ℕ
 startByForm ps Bool = 0
 startByForm ps Uint = 0

@@ -117,7 +117,7 @@ abbrev pub StepWorks : List ℕ → Machine → List ℕ → List ℕ → ℕ �
 StepWorks own m cells l at r = Works own m cells l r (step (placesOf own) (ownTable own) (ownState own m cells) (drop at l))
 
 -- ---- what a row is lent: a table and a record within the bounds of the checks
--- "a variable not of its type" is in no record that a run keeps: every bool is 0 or 1
+-- every bool of a record that a run keeps is 0 or 1 (rule 7.5)
 pub record BoolsFit (own ns : List ℕ) : Type 0 where
   pub small : (i : ℕ) → i < declsOf own → ownForm own i ≡ FBool → getD ns i 0 ≤ 1
 
@@ -132,8 +132,7 @@ pub record Sized (m : Machine) : Type 0 where
   pub lengths : length (m .lengths) ≡ 16
   pub shapes : length (m .shapes) ≡ 16
 
--- "Declarations come first (at most 32), then nodes (1,024), then instruction rows (256)"; "at most 16 arrays"; by 11 ("loop inside eight") at
--- most eight open loops; bools that 15 does not refuse
+-- the limits of a table, of arrays and, by 11, of open loops (rules 1.4, 1.15, 2.22); bools that 15 does not refuse
 pub record Within (own : List ℕ) (m : Machine) (cells : List ℕ) : Type 0 where
   pub words : length own ≡ ownWords
   pub sized : Sized m
@@ -151,7 +150,7 @@ abbrev pub storeRow : Bool → Row
 storeRow true = reducedStore
 storeRow false = store
 
--- place v of an array gets x, by 40: "fails if it is not below the length; a tracked place is written, any other write is dropped"
+-- place v of an array gets x, by 40 (rule 3.18)
 abbrev pub keptIn : List ℕ → State → ℕ → Array → ℕ → Work ModelMove
 keptIn ps s x r v = if ltb v (r .len) then (if keeps ps r v then put ps s r (indexOf ps r v) x else give (to (past s))) else fail
 

@@ -78,7 +78,7 @@ abbrev pub testedOf : Bool → Answer → Worked
 testedOf assume = onBool (λ b at. if b then Moves Goes at else Ends (if assume then AssumeFalse else AssertFalse) at)
 
 -- ---- 37, or 41
--- of a reduced array "its cells are as many as the class of that length"; of a plain one, as many as its length
+-- the cells of an array, by its length and whether it is reduced (rules 2.21, 3.7)
 abbrev pub sizeFor : List ℕ → ℕ → Bool → ℕ
 sizeFor ps len reduced = if reduced then class ps len else len
 
@@ -89,7 +89,7 @@ sizeAt ps ls hs i = sizeFor ps (getD ls i 0) (eqb (getD hs i 0) 1)
 unfoldable pub usedIn : List ℕ → ℕ → List ℕ → List ℕ → ℕ
 usedIn ps n ls hs = sum n (sizeAt ps ls hs)
 
--- "16 arrays or the new cells don't fit after those laid"
+-- want of cells (rule 2.22)
 abbrev pub lacksRoom : ℕ → ℕ → ℕ → ℕ → Bool
 lacksRoom count used size cells = leb 16 count || ltb cells (used + size)
 
@@ -115,7 +115,7 @@ unfoldable pub placeGets : List ℕ → ℕ → ℕ → ℕ → Bool → ℕ →
 placeGets own room start len reduced p x at =
     if ltb p len then cellGets room start (sizeFor (placesOf own) len reduced) p x at else Not Fails at
 
--- ... by 40, of a reduced array: "a tracked place is written, any other write is dropped"
+-- ... by 40, of a reduced array (rule 3.18)
 unfoldable pub trackedGets : List ℕ → ℕ → ℕ → ℕ → ℕ → ℕ → ℕ → Worked
 trackedGets own room start len p x at =
     if ltb p len

@@ -13,8 +13,7 @@ use Rattle.machine.specs.declared.Machine.{Machine}
 use Rattle.machine.specs.declared.End.{End}
 use Rattle.machine.specs.declared.End.the-variants as Code
 
--- ---- the ends: "done; assert false; assume false; fail; want of cells (or a 17th array); out of steps; choice not allowed; no choice left;
--- list full (choice writer only)"
+-- ---- the ends (rule 2.29)
 abbrev pub endOf : End → ModelEnd
 endOf Code.Done = done
 endOf Code.AssertFalse = assertFalse
@@ -30,12 +29,11 @@ endOf Code.ListFull = listFull
 abbrev pub loopIn : List ℕ → List ℕ → List ℕ → ℕ → Loop
 loopIn rows starts ends i = record { row = getD rows i 0; start = getD starts i 0; end = getD ends i 0 }
 
--- "An open loop keeps its row, start and end"
+-- what is kept of each (rules 2.3, 2.24)
 unfoldable pub loopsOf : ℕ → List ℕ → List ℕ → List ℕ → List Loop
 loopsOf n rows starts ends = tab n (λ i. loopIn rows starts ends (n - suc i))
 
--- ---- "Each step takes the machine record and hands back the next one: row, open loops, variables, arrays", with "cells lent beside it". Slots
--- that are not in use are no part of it (R25)
+-- ---- the record as a state, with the cells lent beside it (rules 2.3, 2.4). Slots that are not in use are no part of it (rule 7.13)
 abbrev pub stateBy : List Value → Machine → List ℕ → State
 stateBy vs m cells = record {
   here = position (m .row) (loopsOf (m .«open») (m .«loop_rows») (m .starts) (m .ends));

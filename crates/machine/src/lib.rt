@@ -10,7 +10,7 @@ pub mod writes; // writes.rt: rows 34 and 40
 
 use evaluators::answers::Failure;
 
-// The ends of a run; "list full" is the choice writer's alone.
+// The ends of a run (rule 2.29); list full is the choice writer's alone.
 pub enum End {
     Done,
     AssertFalse,
@@ -25,7 +25,7 @@ pub enum End {
 
 // The record: the row; the variables, each with a number and, for a pointer, its array counted from 1 (0 for none); the open loops, outermost
 // first, each with its row, start and end; the arrays, each with its first cell, its true length and its shape, 1 for a reduced one and any
-// other for a plain one. Slots past the open loops, the declarations or the arrays in use are no part of it.
+// other for a plain one. What stands past those in use is no part of it (rule 7.13).
 // A number stands before each group of columns: so a change to one column copies that column and no other.
 pub struct Machine {
     pub row: u32,

@@ -105,7 +105,7 @@ pub fn entry(
     Worked::Not(Failure::Stuck, at)
 }
 
-// The loop of a row with start x and end y; one of a reduced table takes a choice in the class of each.
+// The loop of a row with start x and end y; a marked one takes a choice in the class of each (rule 3.20).
 pub fn loop_at(
     own: &[u32; 5256],
     list: &[u32],

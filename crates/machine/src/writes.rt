@@ -47,7 +47,7 @@ fn place_gets(own: &[u32; 5256], room: usize, start: u32, len: u32, reduced: boo
     cell_gets(room, start, size_for(own, len, reduced), p, v, at)
 }
 
-// ... by 40, of a reduced array: a tracked place is written, any other write is dropped.
+// ... by 40, of a reduced array: a write to an untracked place has no effect (rule 3.18).
 fn tracked_gets(own: &[u32; 5256], room: usize, start: u32, len: u32, p: u32, v: u32, at: usize) -> Worked
     ensures { λ r. ⌜ r ≡ trackedGets (now (own .entry)) room start len p v at ⌝ }
 {
@@ -60,7 +60,7 @@ fn tracked_gets(own: &[u32; 5256], room: usize, start: u32, len: u32, p: u32, v:
     Worked::Moves(Move::Goes, at)
 }
 
-// 40 on a reduced array: a place is chosen in the class of the pointer's.
+// 40 on a reduced array: a place is chosen in the class of the pointer's (rule 3.17).
 fn chosen_gets(own: &[u32; 5256], list: &[u32], room: usize, start: u32, len: u32, p: u32, v: u32, at: usize) -> Worked
     ensures { λ r. ⌜ Stores (now (own .entry)) (now (list .entry)) room r
         (λ s. storeIn true (placesOf (now (own .entry))) s p v (made start len true) (drop at (now (list .entry)))) ⌝ }

@@ -49,7 +49,7 @@ pub unreduced : {m : MachineKind} (b c : Bool) → AlsoMarked m b c → m ≡ pl
 unreduced true c h e = absurd (false≢true (ap isReduced (sym e ∙ h refl .0)))
 unreduced false c h e = refl
 
--- "With a plain array or none, 28, 29 and 40 act as 19, 26 and 34."
+-- all arrays plain: 28 is 19 then, and 40 is 34 (rule 3.19)
 abbrev pub Flat : List Array → Type 0
 Flat rs = (i : ℕ) → i < length rs → arrayAt rs i .reduced ≡ false
 

@@ -47,7 +47,7 @@ module _ (x s n : ℕ) (cs : List ℕ) (h : s + n ≤ length cs) where
       ∙ getD-drop (s + n) cs (i - (s + n)) 0
       ∙ ap (λ (j : ℕ). getD cs j 0) (omega arith)
 
--- "new cells are 0"
+-- the cells of a new array are 0 (rule 2.23)
 pub cleared-length : (s n : ℕ) (cs : List ℕ) → s + n ≤ length cs → length (cleared s n cs) ≡ length cs
 cleared-length s n cs h = filled-length _ s n cs h
 

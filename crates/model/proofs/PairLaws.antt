@@ -1,4 +1,4 @@
--- What document 01 says of two places, from what is said of any.
+-- What the rules say of two places, from what is said of any.
 -- Assumes nothing.
 use mathlib.Core.Path.{_≡_, refl, sym, _∙_}
 use Prim.Native.Nat.{ℕ, zero, suc, _+_, _<_}

@@ -1,4 +1,4 @@
--- What document 01 says, in its words. A definition cites its sentence where there is one; R1, R2, .. are the readings of docs/DECISIONS.md.
+-- The rules, as definitions. A definition cites the rules of docs/RULES.md that it says, as (rule 2.14).
 pub mod Table
 pub mod Class
 pub mod Pair

@@ -1,4 +1,4 @@
--- What document 01 says of c1 and c2: the case of two places. Proved in proofs/PairLaws.
+-- What the rules say of c1 and c2: the case of two places. Proved in proofs/PairLaws.
 use mathlib.Core.Path.{_≡_}
 use Prim.Native.Nat.{ℕ, _+_, _<_, _≤_}
 use mathlib.Core.Bool.{true, not, _&&_, _||_}
@@ -6,11 +6,11 @@ use lib.Dec.{ltb, leb, eqb}
 use Rattle.model.specs.Table.{most}
 use Rattle.model.specs.Class.{acceptedPlaces, class, classHeld, pair, tracked}
 
--- 13: "c1 + 1 < c2, in whole numbers"
+-- 13: which pairs are accepted (rule 3.1)
 abbrev pub PairAccepted : Type 0
 PairAccepted = (c1 c2 : ℕ) → acceptedPlaces (pair c1 c2) ≡ ltb (c1 + 1) c2
 
--- "The class of v is 0 below c1, 1 at c1, 2 between, 3 at c2, 4 above."
+-- the class of a number (rule 3.2)
 pub record PairClass (c1 c2 v : ℕ) : Type 0 where
   pub below : v < c1 → class (pair c1 c2) v ≡ 0
   pub atFirst : v ≡ c1 → class (pair c1 c2) v ≡ 1
@@ -21,11 +21,11 @@ pub record PairClass (c1 c2 v : ℕ) : Type 0 where
 abbrev pub PairClasses : Type 0
 PairClasses = (c1 c2 : ℕ) → acceptedPlaces (pair c1 c2) ≡ true → (v : ℕ) → PairClass c1 c2 v
 
--- "both tracked circuits": the places of demand 3's cells are c1 and c2, and no other
+-- "both tracked circuits" of demand 3: the tracked places are c1 and c2, and no other (rule 3.1)
 abbrev pub PairTracked : Type 0
 PairTracked = (c1 c2 v : ℕ) → tracked (pair c1 c2) v ≡ (eqb c1 v || eqb c2 v)
 
--- 15: "a class above 4 or holding no number": 0 where c1 is 0, 4 where c2 is the largest number (R26)
+-- 15: no class above 4 is held, nor 0 where c1 is 0, nor 4 where c2 is the largest number (rule 7.6)
 abbrev pub PairHeld : Type 0
 PairHeld =
     (c1 c2 : ℕ) → acceptedPlaces (pair c1 c2) ≡ true → c2 ≤ most → (k : ℕ)

@@ -73,7 +73,7 @@ wrote-is v p cells l l′ got report n e =
     let e′ : writes got n l ≡ writer.wroteSaid l′ report = rw p at e in
     (cc, cc, cc)
 
--- a table and a pair that passed, and the numbers that the writer counted, which are the first of the list (R22)
+-- a table and a pair that passed, and the numbers that the writer counted, which are the first of the list (rule 8.6)
 pub record Passed (t : List ℕ) (c1 c2 limit : ℕ) (list : List ℕ) (ran : Ran) : Type 0 where
   pub table : tableCheck plain t ≡ Passes
   pub places : placesCheck (pair c1 c2) ≡ Passes
@@ -138,7 +138,7 @@ line-from e n s l xs (ended e′ n′ s′ l′) q =
     ∙ ap (line e′ (s′ .here .row) n′) (sym (none-used (length l′)))
 line-from e n s l xs noEnd q = absurd (let z : _≡_ {A = ℕ} 0 1 = cc in omega numbers)
 
--- an end is "list full" or it is not
+-- an end is list full or it is not
 abbrev isFull : End → Bool
 isFull done = false
 isFull assertFalse = false

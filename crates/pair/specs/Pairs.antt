@@ -1,4 +1,4 @@
--- What the bench program answers to an input (document 01, "Bench program and examples").
+-- What the bench program answers to an input (section 8 of the rules).
 use Prim.Native.Nat.{ℕ, _*_}
 use mathlib.Core.List.{List, []}
 use lib.ListN.{length, take, drop, replicate}
@@ -29,7 +29,7 @@ pub data LineSaid : Type 0 where
   line : End → ℕ → ℕ → ℕ → LineSaid
   noLine : LineSaid
 
--- "a refusal prints `refused N line L`, L being the place" (R2); else the plain run's line and the reduced run's
+-- a refusal by its number and place (rule 8.2); else the plain run's line and the reduced run's (rule 8.3)
 pub data PairSaid : Type 0 where
   refusal : ℕ → ℕ → PairSaid
   lines : LineSaid → LineSaid → PairSaid
@@ -50,36 +50,36 @@ lineOf l = line (endOf (l .end)) (l .row) (l .steps) (l .used)
 abbrev pub saidOf : Paired → PairSaid
 saidOf a = saidBy (a .verdict) (lines (lineOf (a .plain)) (lineOf (a .pair)))
 
--- "Row is where the run stands; then steps taken, choices used", those of the list
+-- a run's line, its choices being those of the list (rule 8.3)
 abbrev pub lineSaid : List ℕ → Report → LineSaid
 lineSaid list (ended e n s left) = line e (s .here .row) n (choicesUsed list (ended e n s left))
 lineSaid list noEnd = noLine
 
--- "the written choices (room 8,192)": those that the writer counted (R22)
+-- the choices that the writer counted, with room for 8,192 (rule 8.6)
 abbrev pub writtenChoices : List ℕ → ℕ → List ℕ → List ℕ
 writtenChoices ps limit P = numbersOf (writerRun ps P limit 8192)
 
--- "It prints the plain run and the reduced run under the written choices", with one limit for all (R22)
+-- the two lines, with one limit for all runs (rules 8.3, 8.6)
 unfoldable pub linesSaid : List ℕ → ℕ → List ℕ → PairSaid
 linesSaid ps limit P =
     let list = writtenChoices ps limit P in
     lines (lineSaid [] (plainRun P limit)) (lineSaid list (reducedRun ps (reduce P) limit list))
 
--- "Tested in this order": the table's checks, 4 to 12, then the places', 13 (R1). No other number can come out: the runs are lent buffers
+-- the table's checks, 4 to 12, then the places', 13 (rules 6.2, 6.21). No other number can come out: the runs are lent buffers
 -- of the stated sizes, and the reduction passes
 unfoldable pub tableSaid : List ℕ → ℕ → List ℕ → PairSaid
 tableSaid ps limit P = saidBy (andThen (tableCheck plain P) (placesCheck ps)) (linesSaid ps limit P)
 
--- by what the reader answers: the file's checks, 1 to 3, come first (R1); the table is the first of the words, four to a line
+-- by what the reader answers: the file's checks, 1 to 3, come first (rule 6.2); the table is the first of the words, four to a line
 abbrev pub readSaid : List ℕ → ℕ → Read → List ℕ → PairSaid
 readSaid ps limit (File.Refused number place) words = refusal number place
 readSaid ps limit (File.Lines n) words = tableSaid ps limit (take (4 * n) words)
 
--- "The reader fills 5,248 words"; a file "above 22,016" bytes gets 1, so an input may be of any length (R2)
+-- the reader is lent 5,248 words; a file above 22,016 bytes gets 1, so an input may be of any length (rule 8.1)
 unfoldable pub fileSaid : List ℕ → ℕ → List ℕ → PairSaid
 fileSaid ps limit file = readSaid ps limit (readAnswer file 5248) (readBuffer file (replicate 5248 0))
 
--- "`pairrun` reads from standard input c1, c2, step limit (three little-endian words), then a file; fewer than 12 bytes is refusal 1"
+-- c1, c2 and the limit, then the file; fewer than 12 bytes get 1 (rule 8.1)
 unfoldable pub pairSaid : List ℕ → PairSaid
 pairSaid input =
     if ltb (length input) 12 then refusal 1 0

@@ -1,5 +1,5 @@
-// The bench program: reads a pair, a limit of steps and a file from standard input, and prints the plain run and the reduced run under
-// the written choices, or a refusal.
+// The bench program (section 8 of the rules): reads a pair, a limit of steps and a file, and prints the plain run and the reduced run
+// with the choices that the writer wrote, or a refusal.
 use pair::pair_run;
 use printing::print_paired;
 

@@ -1,4 +1,4 @@
--- "The choice list is read from the front through one reader", which "holds the lent list and a cursor".
+-- The list is read from its front, through one reader, which has the lent list and a cursor (rule 3.11).
 use Prim.Native.Nat.{ℕ, _+_}
 use mathlib.Core.List.{List}
 use lib.ListN.{length, getD}
@@ -7,16 +7,16 @@ use Rattle.lists.specs.If.{if_then_else_}
 use Rattle.reader.specs.declared.Choice.{Choice}
 use Rattle.reader.specs.declared.Choice.the-variants.{Is, NoneLeft}
 
--- "The choice list is read from the front": the number at the cursor, and the cursor after it
+-- the number at the cursor, and the cursor after it; or none left (rules 3.11, 3.12)
 abbrev pub choiceAt : List ℕ → ℕ → Choice
 choiceAt l at = if ltb at (length l) then Is (getD l at 0) (at + 1) else NoneLeft
 
--- the cursor of the "rest": after the choice, or the same where there is "no choice left"
+-- the cursor of the rest: after the choice, or the same where none is left
 abbrev pub cursorAfter : Choice → ℕ → ℕ
 cursorAfter (Is c next) at = next
 cursorAfter NoneLeft at = at
 
--- "thin take and rest functions": the number of the one beside the cursor of the other
+-- the number of a choice beside another cursor: what `take` gives and what `rest` gives
 abbrev pub followedBy : Choice → ℕ → Choice
 followedBy (Is c next) at = Is c at
 followedBy NoneLeft at = NoneLeft

@@ -13,7 +13,7 @@ pub record Pushed : Type 0 where
 abbrev pub pushed : List ℕ → ℕ → Pushed
 pushed b i = record { buffer = b; at = i }
 
--- one number more; "the rest of the list is kept", and past its end nothing is written
+-- one number more: the others stay, and past the end nothing is written
 unfoldable pub push : ℕ → Pushed → Pushed
 push v p = if ltb (p .at) (length (p .buffer)) then pushed (set (p .buffer) (p .at) v) (p .at + 1) else p
 

@@ -23,7 +23,7 @@ use Rattle.evaluators.specs.declared.answers.Answer.{Answer}
 use Rattle.evaluators.specs.declared.answers.Answer.the-variants.{Bool as ABool, Uint as AUint, Pointer as APointer, Not}
 use Rattle.recording.specs.CodePushes.{Pushed, pushed, pushAll}
 
--- which of so many arrays the reduced run holds reduced: a 1 in the column says it (R28)
+-- which of so many arrays the reduced run holds reduced: a 1 in the column says it (rule 4.7)
 unfoldable pub heldOf : ℕ → List ℕ → List Bool
 heldOf count held = tab count (λ i. eqb (getD held i 0) 1)
 
@@ -41,16 +41,16 @@ pairOf own = pair (getD own 129 0) (getD own 130 0)
 abbrev pub stateIn : Lent → State
 stateIn e = record { here = position 0 []; vars = varsIn e; arrays = arraysIn e; cells = e .cells }
 
--- "writes the true number wherever the reduced run takes a choice": those of node n, which must be below `user`, for the type w
+-- the numbers (rule 4.6) of node n, which must be below `user`, for the type w
 unfoldable pub operandNumbers : Lent → List ℕ → Ty → ℕ → ℕ → List ℕ
 operandNumbers e held w user n =
     if ltb n user then choicesF (pairOf (e .own)) (ownTable (e .own)) (heldOf (e .count) held) (stateIn e) (suc n) w n else []
 
--- ... "the variable's at 27"
+-- ... of a variable, at 27
 unfoldable pub variableNumbers : List ℕ → List Value → ℕ → List ℕ
 variableNumbers own vs a = if markedUint (ownTable own) a then given (variableOf vs a []) numberOf else []
 
--- ... and "the cell's at 28": o is what the load came to
+-- ... and of a cell, at 28: o is what the load came to
 unfoldable pub cellNumbers : List ℕ → List Bool → Ptr → Out ℕ → List ℕ
 cellNumbers ps ks p o = if (if heldReduced ks (p .array) then tracked ps (p .place) else true) then [] else given o (λ n. n ∷ [])
 

@@ -165,7 +165,7 @@ fn record_loop<'a>(
     entry(own, ns, here, here, false, v, w, open, false, n)
 }
 
-// Row 39: start + 1 and the kept end of the innermost loop.
+// Row 39: the innermost loop, with one more than its kept start (rules 2.26, 4.6).
 fn record_repeat<'a>(
     own: &[u32; 5256],
     out: &mut [u32],

@@ -10,11 +10,11 @@ use Rattle.table.specs.declared.Verdict.{Verdict}
 use Rattle.table.specs.declared.Verdict.the-variants.{Passes, Refused}
 use Rattle.table.specs.Checks.{tableCheck, andThen, sizeCheck}
 
--- 13: "not c1 + 1 < c2", of some place and the next; the refusal's place is 0
+-- 13, of some place and the next (rules 3.1, 6.18); the refusal's place is 0
 abbrev pub placesCheck : List ℕ → Verdict
 placesCheck ps = if acceptedPlaces ps then Passes else Refused 13 0
 
--- 4 to 12, 13, 14: "reduced table not as long as its table" (R12)
+-- 4 to 12, 13, and 14 where the lent table is not as long as the table (rule 6.21)
 unfoldable pub reduceAnswer : List ℕ → List ℕ → ℕ → Verdict
 reduceAnswer w ps size = andThen (tableCheck plain w) (andThen (placesCheck ps) (sizeCheck size (length w)))
 

@@ -34,13 +34,11 @@ saidOf t f l a cells = saidBy (a .verdict) cells (reports (reportOf t f l (a .ra
 abbrev pub ranSaid : List ℕ → Report → Said
 ranSaid l report = reports report (choicesUsed l report)
 
--- "A fresh run has a fresh record and its own zeroed cells" (R21), of the machine m, which tracks the places ps; a refusal leaves the
--- cells as they were lent
+-- a fresh run (rule 2.32) of the machine m, which tracks the places ps; a refusal leaves the cells as they were lent (rule 6.4)
 unfoldable pub freshSaid : MachineKind → List ℕ → List ℕ → List ℕ → List ℕ → ℕ → Said
 freshSaid m ps t cells l limit = saidBy (runChecks m ps t (length cells)) cells (ranSaid l (run ps (tableOf t) limit 0 (fresh ps m (tableOf t)) l))
 
--- a run from the state s, which has the record and the lent cells: "any record that 15 doesn't refuse and any numbers in its cells"; 15
--- comes last
+-- a run from the state s, which has the record and the lent cells (rule 2.33); 15 comes last (rule 6.2)
 unfoldable pub continuedSaid : MachineKind → List ℕ → List ℕ → State → List ℕ → ℕ → Said
 continuedSaid m ps t s l limit =
     let v = andThen (runChecks m ps t (length (s .cells))) (recordCheck m ps (tableOf t) s) in

@@ -36,9 +36,8 @@ pub record Ready (t : List ℕ) (f : Frame) (m : Machine) (cells : List ℕ) : T
 abbrev pub ran : End → ℕ → ℕ → Machine → Ran
 ran e n at m = record { end = e; steps = n; used = at; machine = m }
 
--- A row that does not go on, after n steps, with the next choice at `at`: "A step that ends a run counts"; "its used choices
--- count"; "The last three ends don't count their step or its choices." (R13) No step of a run is stuck, and none that goes on is asked of, so what
--- stands there is never handed back.
+-- A row that does not go on, after n steps, with the next choice at `at`: which steps and choices count (rule 2.29). No step of a run is
+-- stuck, and none that goes on is asked of, so what stands there is never handed back.
 abbrev pub failedOf : Failure → ℕ → ℕ → ℕ → Machine → Ran
 failedOf Fails next n at m = ran Code.Fail (suc n) next m
 failedOf BadChoice next n at m = ran Code.ChoiceNotAllowed n at m

@@ -40,7 +40,7 @@ pub record SaysRight (m : MachineKind) (ps : List ℕ) (t : Table) (l cells : Li
   pub ends : length cells ≡ cellCount m → Can → SaysEnd m ps t l said
 
 -- Demand 3: "no run of P or Q, fresh or continued from a record that is not refused, meets an operand of the wrong kind or a cell outside its
--- memory": what `run_plain` and `run_reduced` say, of choices of 32 bits
+-- memory" (rule 10.7): what `run_plain` and `run_reduced` say, of choices of 32 bits
 abbrev pub FreshEnds : Type 0
 FreshEnds =
     (m : MachineKind) (ps : List ℕ) → acceptedPlaces ps ≡ true → (t : List ℕ) → tableCheck m t ≡ Passes → (cells l : List ℕ) → Numbers l → (limit : ℕ)

@@ -1,5 +1,5 @@
--- Check 15: a continued record that the table can't have, condition by condition in document 01's order, of the state that the record
--- holds (R24 to R27). A slot that is not in use is no part of the state. ps are the places that the machine tracks; the plain one has none.
+-- Check 15, condition by condition (rules 7.1 to 7.12), of the state that the record holds. A slot that is not in use is no part of the
+-- state (rule 7.13). ps are the places that the machine tracks; the plain one has none.
 use Prim.Native.Nat.{ℕ, _+_}
 use mathlib.Core.Bool.{Bool, true, false, not, _&&_}
 use mathlib.Core.List.{List, [], _∷_, map}
@@ -23,27 +23,27 @@ sameNumbers [] (y ∷ ys) = false
 sameNumbers (x ∷ xs) [] = false
 sameNumbers (x ∷ xs) (y ∷ ys) = eqb x y && sameNumbers xs ys
 
--- "row above the row count"
+-- rule 7.2
 abbrev pub rowWithin : Table → State → Bool
 rowWithin t s = leb (s .here .row) (t .rows)
 
--- "open loops not those around the row, outermost first" (R24; the innermost stands first in the state)
+-- rule 7.3 (the innermost stands first in the state)
 abbrev pub loopsAround : Table → State → Bool
 loopsAround t s = sameNumbers (map (λ (l : Loop). l .row) (s .here .loops)) (openAt t (s .here .row))
 
--- "a start above its end"
+-- rule 7.4
 abbrev pub startsWithin : List Loop → Bool
 startsWithin [] = true
 startsWithin (l ∷ ls) = leb (l .start) (l .end) && startsWithin ls
 
--- "a class above 4 or holding no number" (R26): one that no number of 32 bits has
+-- rule 7.6: some number of 32 bits has the class
 abbrev pub holdsClass : List ℕ → Value → Bool
 holdsClass ps (Truth b) = false
 holdsClass ps (Uint n) = false
 holdsClass ps (Class k) = classHeld ps k
 holdsClass ps (Pointer r p) = false
 
--- "a variable not of its type", "a pointer to no such array" (a place may be any, R18, R25); `count` is how many arrays the record has
+-- rules 7.5 and 7.7 (a place may be any, rule 7.12); `count` is how many arrays the record has
 abbrev pub ofTheType : ℕ → Ty → Value → Bool
 ofTheType count bool (Truth b) = true
 ofTheType count bool (Uint n) = false
@@ -69,19 +69,18 @@ variableFits m ps t s i =
 abbrev pub variablesFit : MachineKind → List ℕ → Table → State → Bool
 variablesFit m ps t s = eqb (length (s .vars)) (t .decls) && all (t .decls) (variableFits m ps t s)
 
--- "arrays not in sequence": each starts where the one before ends (R27). "cells that don't suit length and kind" cannot be: an array's
--- cells are those that its length and kind give it
+-- rule 7.9: each starts where the one before it ends. An array's cells are those that its length and kind give it (rule 7.12)
 abbrev pub inSequence : List ℕ → ℕ → List Array → Bool
 inSequence ps from [] = true
 inSequence ps from (r ∷ rs) = eqb (r .start) from && inSequence ps (from + sizeOf ps r) rs
 
--- "a reduced array in a plain record"
+-- rule 7.11
 abbrev pub kindsFit : MachineKind → List Array → Bool
 kindsFit m [] = true
 kindsFit plain (r ∷ rs) = not (r .reduced) && kindsFit plain rs
 kindsFit reduced (r ∷ rs) = kindsFit reduced rs
 
--- "more than 16 arrays, arrays not in sequence, past the cells" (4,096 or 4,112 of them, by 14; R27)
+-- rules 7.8 to 7.11 (the cells are 4,096 or 4,112, by 14)
 abbrev pub arraysFit : MachineKind → List ℕ → State → Bool
 arraysFit m ps s =
     leb (length (s .arrays)) mostArrays
@@ -93,6 +92,6 @@ unfoldable pub recordFits : MachineKind → List ℕ → Table → State → Boo
 recordFits m ps t s =
     rowWithin t s && (loopsAround t s && (startsWithin (s .here .loops) && (variablesFit m ps t s && arraysFit m ps s)))
 
--- 15: "a continued record that the table can't have", at place 0
+-- 15, at place 0 (rules 6.3, 6.20)
 abbrev pub recordCheck : MachineKind → List ℕ → Table → State → Verdict
 recordCheck m ps t s = if recordFits m ps t s then Passes else Refused 15 0

@@ -1,4 +1,4 @@
-// The runs of both machines, fresh and continued: what they are lent is checked in document 01's order, and a refusal writes nothing.
+// The runs of both machines, fresh and continued: what they are lent is checked in order (rule 6.21), and a refusal writes nothing.
 pub mod checks;
 mod continued;
 mod fresh;

@@ -1,4 +1,4 @@
-// Check 15, of the open loops: those around the row, outermost first, and no start above its end.
+// Check 15, of the open loops: those around the row, outermost first, each with a start up to its end (rules 7.3, 7.4).
 use lists::word_or_zero;
 use machine::Machine;
 use prepared::Frame;

@@ -93,7 +93,7 @@ module _ (t : Table) (laid : InSorts t) (i : ℕ) (f g : ℕ → Bool) where
     | no k ↦ let low : i < t .decls + t .nodes = omega arith in at-node l low ∙ node l low
   ]
 
--- a rule of rows breaks at no other line
+-- a check of rows breaks at no other line
 pub before-rows : (t : Table) → InSorts t → (i : ℕ) (g : ℕ → Bool) → i < t .decls + t .nodes → ofNodeOrRow (λ n. false) g t i ≡ false
 before-rows t laid i g h = elim (decLe (t .decls) i) [
   | yes l ↦ at-node t laid i (λ n. false) g l h

@@ -37,7 +37,7 @@ size-passes size stated e = go (eqb size stated) refl e
     go true u h = eqb-true size stated u
     go false u h = absurd (let z : _≡_ {A = ℕ} 0 1 = cc in omega arith)
 
--- no line breaks the rule of the number
+-- no line breaks the check of the number
 abbrev pub Unbroken : ℕ → MachineKind → List ℕ → Type 0
 Unbroken k m w = first (breaks k m (tableOf w)) 0 (length w / 4) ≡ Nothing
 
@@ -104,11 +104,11 @@ module _ (m : MachineKind) (w : List ℕ) where
     pub total : lineCount t ≡ length w / 4
     total = all-lines m w (P .none5)
 
-    -- line i does not break the rule of the number
+    -- line i does not break the check of the number
     pub unbroken : (k : ℕ) → Unbroken k m w → (i : ℕ) → i < lineCount t → breaks k m t i ≡ false
     unbroken k h i l = first-nowhere-at (length w / 4) (breaks k m t) 0 h i (omega arith) (omega (arith, total))
 
-    -- a rule of nodes, at a node; a rule of rows, at a row
+    -- a check of nodes, at a node; a check of rows, at a row
     of-node : (node row : ℕ → Bool) (n : ℕ) → n < t .nodes → ofNodeOrRow node row t (t .decls + n) ≡ false → node n ≡ false
     unfolding tableOf
     of-node node row n h e =
@@ -153,7 +153,7 @@ module _ (m : MachineKind) (w : List ℕ) where
     unfolding breaks breaks11
     row-nested r h = of-row (λ n. false) (misnested t) r h (unbroken 11 (P .none11) (t .decls + t .nodes + r) (omega arith))
 
-    -- 11's "inside eight", for those above who count on it
+    -- 11's bound of eight (rule 1.15), for those above who count on it
     pub few-open : (r : ℕ) → r < t .rows → nestAt t r ≡ opens → length (openAt t r) < mostOpen
     unfolding misnested
     few-open r h e =

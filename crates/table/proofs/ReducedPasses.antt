@@ -39,7 +39,7 @@ same-rolesOf x q k e f = go (isDeclaration k) refl (isNode k) refl
     go false h true h′ = rw (e, f, h, h′) (ap nodeRoles (new-node x q k) ∙ same-roles x (nodeKind k))
     go false h false h′ = rw (e, f, h, h′) (ap rowRoles (new-row x q k) ∙ same-rowRoles x q (rowKind k))
 
--- a rule that no node and no row breaks
+-- a check that no node and no row breaks
 none-breaks : (t : Table) (i : ℕ) (node row : ℕ → Bool) → ((n : ℕ) → node n ≡ false) → ((r : ℕ) → row r ≡ false) → ofNodeOrRow node row t i ≡ false
 none-breaks t i node row f g = go (isDeclaration (kindAt t i)) (isNode (kindAt t i))
   where
@@ -58,7 +58,7 @@ module _ (w : List ℕ) (P : Passing plain w) where
   A : Accepted plain t
   A = accepted plain w P
 
-  -- a rule that nodes and rows of both tables break alike
+  -- a check that nodes and rows of both tables break alike
   same-of : (f f′ g g′ : ℕ → Bool) → ((n : ℕ) → f n ≡ f′ n) → ((r : ℕ) → g r ≡ g′ r) → (i : ℕ) → ofNodeOrRow f g u i ≡ ofNodeOrRow f′ g′ t i
   unfolding tableOf
   same-of f f′ g g′ e h i = rw (same-declaration w i, same-isNode w i, e (i - t .decls), h (i - (t .decls + t .nodes)))

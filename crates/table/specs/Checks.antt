@@ -15,7 +15,7 @@ use Rattle.table.specs.declared.Verdict.{Verdict}
 use Rattle.table.specs.declared.Verdict.the-variants.{Passes, Refused}
 use Rattle.table.specs.Rules.{breaks5, breaks6, breaks7, breaks8, breaks9, breaks10, breaks11, breaks12}
 
--- the rule of a number
+-- the check of a number
 unfoldable pub breaks : ℕ → MachineKind → Table → ℕ → Bool
 breaks k m t i =
     if eqb k 5 then breaks5 m t i
@@ -28,11 +28,11 @@ breaks k m t i =
     else (if eqb k 12 then breaks12 m t i
     else false)))))))
 
--- "Tested in this order, each over the whole input" (R1)
+-- the order of the checks (rule 6.2)
 abbrev pub order : List ℕ
 order = 5 ∷ 6 ∷ 7 ∷ 8 ∷ 9 ∷ 10 ∷ 11 ∷ 12 ∷ []
 
--- "the place is the first that breaks it" (R1, R2)
+-- the first check that a line breaks, at the first such line (rules 6.2, 6.3)
 abbrev pub refusedAtLine : Found → ℕ → Verdict → Verdict
 refusedAtLine (At line) k rest = Refused k line
 refusedAtLine Nothing k rest = rest
@@ -41,7 +41,7 @@ unfoldable pub firstRefusal : (ℕ → Found) → List ℕ → Verdict
 firstRefusal f [] = Passes
 firstRefusal f (k ∷ ks) = let rest = firstRefusal f ks in refusedAtLine (f k) k rest
 
--- 4: "words no multiple of 4", at place 0; then the others
+-- 4, of the number of words, at place 0 (rules 6.3, 6.9); then the others
 unfoldable pub tableCheck : MachineKind → List ℕ → Verdict
 tableCheck m w =
     if eqb (length w % 4) 0
@@ -53,11 +53,11 @@ abbrev pub machineOf : Bool → MachineKind
 machineOf false = plain
 machineOf true = reduced
 
--- one check after another, as in "Tested in this order"
+-- one check after another (rule 6.2)
 abbrev pub andThen : Verdict → Verdict → Verdict
 andThen Passes next = next
 andThen (Refused number place) next = Refused number place
 
--- 14: a buffer "not the stated size", at place 0
+-- 14: a buffer of another size, at place 0 (rules 6.3, 6.19)
 abbrev pub sizeCheck : ℕ → ℕ → Verdict
 sizeCheck size stated = if eqb size stated then Passes else Refused 14 0

@@ -295,6 +295,6 @@ pub record Kept (t : Table) (depths : List ℕ) : Type 0 where
 abbrev pub depthUnder : Table → ℕ → ℕ → ℕ → ℕ
 depthUnder t n role x = if eqb role 4 then (if ltb x n then depth t x else 0) else 0
 
--- the first line that breaks a rule
+-- the first line that breaks a check
 abbrev pub firstOf : ℕ → Bool → List ℕ → Counts → Found
 firstOf k reduced w c = first (breaks k (machineOf reduced) (tableBy w c)) 0 (length w / 4)

@@ -1,4 +1,4 @@
--- The rules 5 to 12 of a table's line (document 01, "Refusals by checking place"): line i breaks the rule.
+-- The checks 5 to 12 of a table's line (section 6 of the rules): line i breaks the check.
 -- What demand 3 needs of them is said in the model (specs/Accepted), and is used from there.
 use Prim.Native.Nat.{ℕ, _+_, _-_, max}
 use mathlib.Core.Bool.{Bool, true, false, not, _&&_, _||_}
@@ -13,22 +13,22 @@ use Rattle.model.specs.Accepted.{known, nodeThere, rowThere, nodeTyped, rowType
 abbrev pub kindAt : Table → ℕ → ℕ
 kindAt t i = lineAt (t .words) i .kind
 
--- the sort of a kind: declaration, node, row
+-- the sort of a kind: declaration, node, row (rule 1.3)
 abbrev pub sortNumber : ℕ → ℕ
 sortNumber k = if isDeclaration k then 0 else (if isNode k then 1 else 2)
 
--- a rule of nodes and rows, by their numbers in their sort
+-- a check of nodes and rows, by their numbers in their sort
 abbrev pub ofNodeOrRow : (ℕ → Bool) → (ℕ → Bool) → Table → ℕ → Bool
 ofNodeOrRow node row t i =
     if isDeclaration (kindAt t i) then false
     else (if isNode (kindAt t i) then node (i - t .decls) else row (i - (t .decls + t .nodes)))
 
--- 5: "unknown kind, or sorts out of order" (R5). The first line whose sort is below that of an earlier line is one whose sort is
+-- 5 (rule 6.10). The first line whose sort is below that of an earlier line is one whose sort is
 -- below that of the line before it; line 0 has none before it
 unfoldable pub breaks5 : MachineKind → Table → ℕ → Bool
 breaks5 m t i = not (known m (kindAt t i)) || ltb (sortNumber (kindAt t i)) (sortNumber (kindAt t (i - 1)))
 
--- 6: "a sort over its limit" (R6): "at most 32", "1,024", "256"
+-- 6 (rules 1.4, 6.11)
 abbrev pub mostDeclarations : ℕ
 mostDeclarations = 32
 
@@ -44,7 +44,7 @@ breaks6 t i =
     || ((isNode (kindAt t i) && leb (t .decls + mostNodes) i)
     || (isRow (kindAt t i) && leb (t .decls + t .nodes + mostRows) i))
 
--- 7: "zero operand, mark or bool constant wrong" (R7)
+-- 7, by the role of each operand (rules 1.6, 1.10, 6.12)
 abbrev pub valueSuits : Role → ℕ → Bool
 valueSuits unused x = eqb x 0
 valueSuits flag x = leb x 1
@@ -61,15 +61,15 @@ valuesSuit rs l = valueSuits (rs .a) (l .a) && (valueSuits (rs .b) (l .b) && val
 unfoldable pub breaks7 : Table → ℕ → Bool
 breaks7 t i = not (valuesSuit (rolesOf (kindAt t i)) (lineAt (t .words) i))
 
--- 8: "a variable or node not there, or not smaller" (R8)
+-- 8 (rules 1.11, 6.13)
 unfoldable pub breaks8 : Table → ℕ → Bool
 breaks8 t i = ofNodeOrRow (λ n. not (nodeThere t n)) (λ r. not (rowThere t r)) t i
 
--- 9: "types" (R9)
+-- 9 (rules 1.12, 6.14)
 unfoldable pub breaks9 : Table → ℕ → Bool
 breaks9 t i = ofNodeOrRow (λ n. not (nodeTyped t n)) (λ r. not (rowTyped t r)) t i
 
--- "A node's depth is 1 plus the greatest depth of its operands; a leaf has 1."
+-- the depth of a node, one more than that of its deepest operand (rule 1.13)
 abbrev pub operandDepth : Role → (ℕ → ℕ) → ℕ → ℕ
 operandDepth unused below x = 0
 operandDepth flag below x = 0
@@ -83,17 +83,17 @@ depthBy rs below l = 1 + max (operandDepth (rs .a) below (l .a)) (max (operandDe
 unfoldable pub depth : Table → ℕ → ℕ
 depth t n = valueAt (λ j below. depthBy (nodeRoles (nodeKind (nodeAt t j .kind))) below (nodeAt t j)) 0 n
 
--- 10: "depth above 12"
+-- 10 (rules 1.13, 6.15)
 abbrev pub mostDepth : ℕ
 mostDepth = 12
 
 unfoldable pub breaks10 : Table → ℕ → Bool
 breaks10 t i = ofNodeOrRow (λ n. ltb mostDepth (depth t n)) (λ r. false) t i
 
--- 11: "end with no open loop, loop never closed, loop inside eight" (R10)
+-- 11 (rules 1.14, 1.15, 6.16)
 unfoldable pub breaks11 : Table → ℕ → Bool
 breaks11 t i = ofNodeOrRow (λ n. false) (misnested t) t i
 
--- 12: "row 33 to a marked uint"; of a reduced table "also a kind that the reduction would not give that variable" (R11)
+-- 12 (rules 1.16, 1.17, 6.17)
 unfoldable pub breaks12 : MachineKind → Table → ℕ → Bool
 breaks12 m t i = ofNodeOrRow (λ n. not (nodeSuitsMark m t n)) (λ r. not (rowSuitsMark m t r)) t i

@@ -14,7 +14,7 @@ mod depths; // depths.rt: depths of nodes, check 10
 pub mod marks; // marks.rt: marks of variables, check 12
 mod checks; // checks.rt: the checks in their order
 
-// The answer of a check: it passes, or it is refused with a number of document 01 and the place.
+// The answer of a check: it passes, or it is refused with a number from 1 to 15 and the place (rule 6.1).
 pub enum Verdict {
     Passes,
     Refused(u32, usize),

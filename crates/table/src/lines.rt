@@ -72,7 +72,7 @@ fn line_there(words: &[u32], line: usize, vars: usize, bound: usize) -> bool
     a & (b & c)
 }
 
-// 8: a variable or node that is not there; a node's own operands are smaller.
+// 8: a variable or node that is not there; a node's own operands are smaller (rule 6.13).
 pub(crate) fn breaks_8(words: &[u32], counts: Counts, line: usize) -> bool
     requires { ⌜ InSorts (tableBy (now words) counts) ⌝ }
     requires { ⌜ 4 * line + 3 < length (now words) ⌝ }

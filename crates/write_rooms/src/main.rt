@@ -1,4 +1,4 @@
-// Writes the choices of T (document 01) for the pair 1, 3 into lists of every length from 0 to 31, lent full of sevens, and prints for each
+// Writes the choices of T (rule 8.9) for the pair 1, 3 into lists of every length from 0 to 31, lent full of sevens, and prints for each
 // the end, the row, the steps, how many numbers were written, and the list at exit.
 use machine::End;
 use runs::Answered;
@@ -9,7 +9,7 @@ const MOST: usize = 31;
 
 const CELLS: usize = 4096;
 
-// Document 01, "Bench program and examples".
+// The table T (rule 8.9).
 const T: [u32; 64] = [
     2,
     1,

@@ -1,4 +1,4 @@
--- A tracked place reads the cell of its class, any other takes a choice.
+-- A tracked place has a cell, by its class; any other takes a choice (rule 3.15).
 -- Assumes nothing.
 use Rattle.evaluators.specs.CodeLeaves.{trackedIn}
 use borrow.Author.Needs.{needs}

@@ -1,4 +1,4 @@
--- `checks::line_breaks` meets its contract: one rule for each number.
+-- `checks::line_breaks` meets its contract: one check for each number.
 -- Assumes nothing.
 use borrow.Author.Needs.{needs}
 use native.Mathlib.Omega.{arith}
