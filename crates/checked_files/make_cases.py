@@ -9,6 +9,8 @@ import pathlib
 import struct
 import sys
 
+import rules
+
 HERE = pathlib.Path(__file__).parent
 
 
@@ -16,12 +18,14 @@ def words(*ws):
     return struct.pack("<%dI" % len(ws), *ws)
 
 
-def blocks(lines, numbers=None, counts=None, totals=None):
-    """A program file; numbers, counts and totals by block, where they are to be wrong."""
+def blocks(lines, numbers=None, counts=None, totals=None, fill=None):
+    """A program file; numbers, counts and totals by block, and words of the unused lines, where they are to be wrong."""
     out = []
     parts = [lines[i : i + 31] for i in range(0, len(lines), 31)]
     for k, part in enumerate(parts):
         ws = [w for line in part for w in line] + [0] * (124 - 4 * len(part))
+        for n, w in (fill or {}).items():
+            ws[n] = w
         ws.append((numbers or {}).get(k, k))
         ws.append((counts or {}).get(k, len(part)))
         ws.append((totals or {}).get(k, len(lines)))
@@ -76,6 +80,7 @@ def reduced(lines, expected):
 # the file
 CASES.append((b"", "refused 1 line 0"))
 CASES.append((words(1, 3), "refused 1 line 0"))
+CASES.append((words(1, 3, 100)[:11], "refused 1 line 0"))
 case(b"", "passes 0")
 case(bytes(511), "refused 1 line 0")
 case(bytes(513), "refused 1 line 0")
@@ -91,7 +96,11 @@ case(blocks([SKIP] * 40, totals={1: 41}), "refused 3 line 1")
 case(blocks([SKIP] * 40, totals={0: 40 + 2**31}), "refused 3 line 0")
 case(blocks([SKIP] * 40, counts={0: BIG, 1: 10}, totals={0: 9, 1: 9}), "refused 3 line 0")
 case(blocks([SKIP] * 40, counts={1: 8}, totals={0: 39, 1: 39}), "refused 3 line 1")
+case(blocks([SKIP] * 1313), "refused 3 line 0")
 case(blocks([SKIP] * 1333), "refused 3 line 0")
+case(blocks([SKIP] * 31, counts={0: 32}, totals={0: 32}), "refused 3 line 0")
+for n in 4, 7, 120, 123:
+    case(blocks([SKIP], fill={n: 1}), "refused 3 line 0")
 # limits
 passes([(2, 0, 0, 0)] * 32 + [(17, 0, 0, 0)] * 1024 + [SKIP] * 256)
 passes([(17, 0, 0, 0)] * 1024)
@@ -166,23 +175,32 @@ passes(T, c1=0, c2=BIG)
 # the case with nine skips and a tenth line of zeros: a table of another kind of line
 CASES = [(d, "refused 5 line 40" if e == "passes 41 differs" else e) for d, e in CASES]
 
-vectors = pathlib.Path(sys.argv[1])
-data = (vectors / "cases.bin").read_bytes()
-at = 0
-for line in (vectors / "index.txt").read_text().splitlines():
-    _, length, output = line.split(" ", 2)
-    (n,) = struct.unpack_from("<I", data, at)
-    assert n == int(length)
-    bytes_ = data[at + 4 : at + 4 + n]
-    at += 4 + n
-    if n >= 12 and struct.unpack_from("<I", bytes_, 8)[0] == BIG:
-        continue
-    if not output.startswith("refused"):
-        if n > 2000:
-            continue
-        output = "passes %d" % (struct.unpack_from("<I", bytes_, 12 + 4 * 126)[0] if n > 12 else 0)
-    CASES.append((bytes_, output))
 
-(HERE / "stdin").write_bytes(b"".join(words(len(d)) + d for d, _ in CASES))
-(HERE / "stdout").write_text("".join(e + "\n" for _, e in CASES))
-print(len(CASES), "cases")
+def main():
+    vectors = pathlib.Path(sys.argv[1])
+    data = (vectors / "cases.bin").read_bytes()
+    at = 0
+    for line in (vectors / "index.txt").read_text().splitlines():
+        _, length, output = line.split(" ", 2)
+        (n,) = struct.unpack_from("<I", data, at)
+        assert n == int(length)
+        bytes_ = data[at + 4 : at + 4 + n]
+        at += 4 + n
+        if n >= 12 and struct.unpack_from("<I", bytes_, 8)[0] == BIG:
+            continue
+        if not output.startswith("refused"):
+            if n > 2000:
+                continue
+            output = "passes %d" % (struct.unpack_from("<I", bytes_, 12 + 4 * 126)[0] if n > 12 else 0)
+        CASES.append((bytes_, output))
+
+    # the rules of rules.py say the same of every case
+    for given, expected in CASES:
+        assert rules.line_of(given) == expected, expected
+    (HERE / "stdin").write_bytes(b"".join(words(len(d)) + d for d, _ in CASES))
+    (HERE / "stdout").write_text("".join(e + "\n" for _, e in CASES))
+    print(len(CASES), "cases")
+
+
+if __name__ == "__main__":
+    main()

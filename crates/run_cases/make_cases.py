@@ -81,10 +81,11 @@ class State:
 
 
 class Machine:
-    """A machine on a table: plain, reduced under a list, or the choice writer, which runs plain over a reduced table and fills a list."""
+    """A machine on a table: plain, reduced under a list, or the choice writer, which runs plain over a reduced table and fills a list,
+    of any length where no room is given."""
 
-    def __init__(self, table, cells, pair=None, choices=None, writer=False):
-        self.table, self.cells, self.pair, self.writer = table, cells, pair, writer
+    def __init__(self, table, cells, pair=None, choices=None, writer=False, room=None):
+        self.table, self.cells, self.pair, self.writer, self.room = table, cells, pair, writer, room
         self.choices = choices if choices is not None else []
         self.used = 0
         self.holds_classes = pair is not None and not writer
@@ -100,7 +101,10 @@ class Machine:
     def choice(self, true, wanted=None):
         """The next choice, in the class of the true number unless any number will do; the writer writes the true number."""
         if self.writer:
+            if self.used == self.room:
+                raise Ended("full")
             self.choices.append(true)
+            self.used += 1
             return true
         if self.used == len(self.choices):
             raise Ended("nochoice")
@@ -225,13 +229,17 @@ class Machine:
         while state.row < len(self.table.rows):
             if steps == limit:
                 return "steps", steps, state
-            used, cells, following = self.used, list(self.cells), state.copy()
+            used, following = self.used, state.copy()
+            cells = list(self.cells) if self.table.rows[state.row][0] in (34, 37, 40, 41) else None
             try:
                 self.step(following)
             except Ended as e:
-                self.cells[:] = cells
-                if e.args[0] in ("badchoice", "nochoice"):
+                if cells is not None:
+                    self.cells[:] = cells
+                if e.args[0] in ("badchoice", "nochoice", "full"):
                     self.used = used
+                    if self.writer:
+                        del self.choices[used:]
                     return e.args[0], steps, state
                 return e.args[0], steps + 1, state
             state = following
@@ -378,11 +386,16 @@ def both(lines, *runs):
     reduced(lines, *runs, choices=written(lines, (1, 3), 10000))
 
 
+def write_choices(lines, pair, limit, room=None):
+    """The choice writer's end, steps and last state, how many numbers it counts, and the numbers."""
+    writer = Machine(Table(lines).reduced(), [0] * CELLS[PLAIN], pair, writer=True, room=room)
+    end, steps, state = writer.run(writer.fresh(), limit)
+    return end, steps, state, writer.used, writer.choices
+
+
 def written(lines, pair, limit):
     """The choice writer's list."""
-    writer = Machine(Table(lines).reduced(), [0] * CELLS[PLAIN], pair, writer=True)
-    writer.run(writer.fresh(), limit)
-    return writer.choices
+    return write_choices(lines, pair, limit)[4]
 
 
 def fields(line):
@@ -464,6 +477,12 @@ def wants_of_cells():
     lines = [P, constant(3), (37, 0, 0, 0), (37, 0, 0, 0)]
     edits = [(CELL, 0, 5), (CELL, 3, 6), (CELL, 5, 8), (CELL, 6, 9), (CELL, 4095, 4)]
     plain(lines, 1, (1, edits))
+    lines = [MP, constant(9), (37, 0, 0, 0), (37, 0, 0, 0)]
+    reduced(lines, 1, (1, edits + [(CELL, 7, 3), (CELL, 8, 2), (CELL, 12, 1)]))
+    # one that doesn't fit leaves the cells
+    plain([P, constant(3), constant(4094), (37, 0, 0, 0), (37, 0, 1, 0)], 1, (1, edits), 1)
+    plain([P, constant(3), constant(0), (37, 0, 0, 0)] + [(37, 0, 1, 0)] * 15 + [(37, 0, 0, 0)], 16, (1, edits), 1)
+    reduced([P, constant(3), constant(4110), (37, 0, 0, 0), (37, 0, 1, 0)], 1, (1, edits), 1)
     # the pointer is at place 0 then, wherever it was
     for declaration in P, MP:
         both([declaration, constant(4), variable(0), (20, 1, 0, 0), (33, 0, 2, 0), (37, 0, 0, 0)], 100)
@@ -690,6 +709,7 @@ def record_edits():
     yield sequence(*[(256 * i, 256, 0) for i in range(16)])
     yield sequence(*[(256 * i, 256 + i // 15, 0) for i in range(16)])
     yield sequence(*[(4 * i, BIG, 1) for i in range(16)])
+    yield sequence(*[(0, 0, 0)] * 16) + [(COUNT, 0, 17)]
     # a record at the end
     yield loops_at(11)
     yield loops_at(12)
@@ -702,6 +722,10 @@ def records():
         more = [(CELL, 0, 12), (CELL, 4, 13), (CELL, 4095, 14)]
         plain(KEPT, 4, (3, edits), 2, (1000, more))
         reduced(KEPT, 4, (3, edits), 2, (1000, more), choices=choices)
+    # a refusal leaves the numbers in the cells
+    for edits in [(ROW, 0, 12)], [(COUNT, 0, 17)], [(START, 0, BIG)]:
+        plain(KEPT, 4, (3, edits + [(CELL, 0, 12), (CELL, 4095, 14)]), 2)
+        reduced(KEPT, 4, (3, edits + [(CELL, 0, 12), (CELL, 4111, 14)]), 2, choices=choices)
     # classes that hold no number
     for pair in (0, 2), (0, BIG), (1, BIG), (0, BIG - 1), (1, BIG - 1), (BIG - 2, BIG):
         choices = written(KEPT, pair, 1000)
@@ -750,6 +774,111 @@ def refusals():
         reduced(T, 100, (100, [row]), pair=pair, lent=4111, expect="refused 13 line 0")
     for pair in (0, 2), (BIG - 2, BIG), (0, BIG):
         reduced(T, 100, pair=pair, choices=written(T, pair, 100))
+
+
+# A line of each kind that passes after these declarations, and these nodes in a node or row
+DECLARED = [B, U, MU, P, MP]
+LEAVES = [(18, 1, 0, 0), constant(1), variable(3)]
+BOOL_NODE, UINT_NODE, POINTER_NODE = 0, 1, 2
+NODES = {16: (1, 0, 0), 17: (9, 0, 0), 18: (1, 0, 0), 19: (2, 0, 0), 25: (0, 1, 1), 26: (2, 0, 0), 27: (2, 0, 0), 28: (2, 0, 0), 29: (2, 0, 0)}
+NODES.update({kind: (1, 1, 0) for kind in range(20, 25)})
+ROWS = {32: (0, 0, 0), 33: (1, 1, 0), 34: (2, 1, 0), 35: (0, 0, 0), 36: (0, 0, 0), 37: (3, 1, 0), 38: (1, 1, 1), 39: (0, 0, 0)}
+ROWS.update({40: (2, 1, 0), 41: (4, 1, 0), 42: (2, 1, 1)})
+LINES = {1: (0, 0, 0), 2: (1, 0, 0), 3: (1, 0, 0), **NODES, **ROWS}
+# How many of the operands a, b, c name a variable or a node; the first of VARIABLES' is a variable
+NAMED = {1: 0, 2: 0, 3: 0, 16: 1, 17: 0, 18: 0, 19: 1, 25: 3, 26: 1, 27: 1, 28: 1, 29: 1, 32: 0, 35: 1, 36: 1, 38: 3, 39: 0, 42: 3}
+NAMED.update({kind: 2 for kind in (20, 21, 22, 23, 24, 33, 34, 37, 40, 41)})
+VARIABLES = (16, 27, 33, 37, 38, 41, 42)
+REDUCED_ONLY = (27, 28, 29, 40, 41, 42)
+
+
+def with_line(kind, operands, leaves=LEAVES):
+    """A table with a line of a kind in the place of its sort, and the number of that line."""
+    line = (kind, *operands)
+    if kind < 16:
+        return DECLARED + [line] + leaves, len(DECLARED)
+    before = DECLARED + leaves + ([(38, 1, UINT_NODE, UINT_NODE)] if kind == 39 else [])
+    return before + [line] + ([CLOSE] if kind in (38, 42) else []), len(before)
+
+
+def refused_line(number, kind, operands, leaves=LEAVES, machine=None):
+    machine = (REDUCED if kind in REDUCED_ONLY else PLAIN) if machine is None else machine
+    lines, place = with_line(kind, operands, leaves)
+    case(machine, lines, [1], refusal=(number, place))
+
+
+def changed(operands, at, v):
+    return operands[:at] + (v,) + operands[at + 1 :]
+
+
+def chain(depth):
+    """Nodes in which the last three have a depth: a bool, a uint, a pointer."""
+    nodes = list(LEAVES)
+    for i in range(0, 3 * depth - 3, 3):
+        nodes += [(25, i, i, i), (20, i + 1, i + 1, 0), (20, i + 2, UINT_NODE, 0)]
+    return nodes
+
+
+def refused_lines():
+    """Each check of a line, for each kind and operand, and unknown kinds."""
+    for kind, good in LINES.items():
+        for at in range(NAMED[kind], 3):
+            if (kind, at) != (17, 0):
+                refused_line(7, kind, changed(good, at, 2 if (kind, at) in ((2, 0), (3, 0), (18, 0)) else 1))
+        for at in range(NAMED[kind]):
+            variable_there = kind in VARIABLES and at == 0
+            refused_line(8, kind, changed(good, at, len(DECLARED) if variable_there else len(LEAVES)))
+            # another type
+            others = [n for n in (BOOL_NODE, UINT_NODE, POINTER_NODE) if n != good[at] and (kind, at, n) not in ((20, 0, 2), (21, 0, 2))]
+            if variable_there:
+                others = [v for v in (0, 1, 3) if DECLARED[v][0] != DECLARED[good[at]][0] and kind not in (16, 27)]
+            for v in others:
+                refused_line(9, kind, changed(good, at, v))
+            if 19 <= kind <= 29 and kind != 27:
+                deep = chain(12)
+                refused_line(10, kind, changed(good, at, len(deep) - 3 + good[at]), deep)
+    for kind in (20, 21):
+        for v in (BOOL_NODE, POINTER_NODE):
+            refused_line(9, kind, (POINTER_NODE, v, 0))
+    for kind in (22, 23, 24):
+        for v in (BOOL_NODE, POINTER_NODE):
+            refused_line(9, kind, (v, v, 0))
+    for v, w in (0, 1), (0, 2), (2, 0), (2, 1):
+        refused_line(9, 25, (BOOL_NODE, v, w))
+    for v, w in (0, 1), (0, 2), (3, 0), (3, 1):
+        refused_line(9, 33, (v, w, 0))
+    # a kind in a table of the other sort, and kinds of no sort
+    none = (0, 4, 15, 30, 31, 43, 2**31 + 17, BIG)
+    for machine, kinds in (PLAIN, (*REDUCED_ONLY, *none)), (REDUCED, (19, 26, 34, *none)):
+        for kind in kinds:
+            refused_line(5, kind, LINES.get(kind, (0, 0, 0)), machine=machine)
+    # 27 has the type of its variable
+    case(REDUCED, [B, (27, 0, 0, 0), (35, 0, 0, 0)], [1], refusal=(12, 1))
+    case(REDUCED, [MP, (27, 0, 0, 0), constant(1), (40, 0, 1, 0)], [1], refusal=(12, 1))
+
+
+def refused_twice():
+    """Two lines that break a check, and two checks that are broken: the first line, and the smaller number."""
+    bad = {7: (16, 0, 1, 0), 8: (16, 9, 0, 0), 9: (19, 0, 0, 0), 12: (33, 2, 1, 0)}
+    for number, line in bad.items():
+        lines = DECLARED + LEAVES + [line]
+        case(PLAIN, lines + [line], [1], refusal=(number, len(lines) - 1))
+    case(PLAIN, [U] * 33 + [(31, 0, 0, 0)], [1], refusal=(5, 33))
+    case(PLAIN, [U] * 35 + [(2, 2, 0, 0)], [1], refusal=(6, 32))
+    case(PLAIN, [U, SKIP, U], [1], refusal=(5, 2))
+    case(PLAIN, [U, SKIP, U, constant(1)], [1], refusal=(5, 2))
+    deep = DECLARED + chain(13)
+    place = len(deep) - 3
+    case(PLAIN, deep, [1], refusal=(10, place))
+    case(PLAIN, deep + [CLOSE, (33, 2, 1, 0)], [1], refusal=(10, place))
+    case(PLAIN, deep + [(33, 0, 1, 0)], [1], refusal=(9, len(deep)))
+    ends = DECLARED + LEAVES + [SKIP, CLOSE, (38, 1, 1, 1)]
+    case(PLAIN, ends, [1], refusal=(11, len(ends) - 2))
+    case(PLAIN, ends + [(33, 2, 1, 0)], [1], refusal=(11, len(ends) - 2))
+    case(PLAIN, [(33, 0, 0, 0), CLOSE], [1], refusal=(8, 0))
+    for cut in 1, 2, 3:
+        words = [w for line in T for w in line][:-cut]
+        case(PLAIN, T, [1], words=words, refusal=(4, 0))
 
 
 class Shuffled:
@@ -877,6 +1006,8 @@ def main():
     orders()
     records()
     refusals()
+    refused_lines()
+    refused_twice()
     tally = shuffled(150)
     (HERE / "stdin").write_bytes(b"".join(struct.pack("<I", len(data)) + data for data, _ in CASES))
     (HERE / "stdout").write_text("".join(line + "\n" for _, out in CASES for line in out))
