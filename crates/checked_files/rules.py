@@ -1,5 +1,5 @@
-"""The rules of document 01 on files, tables and pairs, for make_cases.py and for run_cases/break_rules.py: the file and the refusals 1 to
-13, written from the document and from the readings R1 to R12 of it (docs/DECISIONS.md), apart from the proved code.
+"""The rules on files, tables and pairs, for make_cases.py and for run_cases/break_rules.py: sections 1 and 5 of docs/RULES.md and the
+refusals 1 to 13 of section 6, apart from the proved code.
 
 A refusal is a number and a place; None is none. A table is lines of four words.
 """

@@ -1,5 +1,5 @@
 #!/usr/bin/env python3
-"""Breaks the rules of document 01 one by one in the interpreters that the stored cases come from, and counts the cases that notice.
+"""Breaks the rules of docs/RULES.md one by one in the interpreters that the stored cases come from, and counts the cases that notice.
 
 The interpreters are those of run_cases (both machines, the choice writer, check 15), checked_files/rules.py (files, tables, pairs),
 pair_cases (`pairrun`) and write_rooms; the cases are the stored stdin and stdout of these four programs; breakages.py has the breakages. A
