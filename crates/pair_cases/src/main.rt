@@ -1,6 +1,5 @@
 // Runs cases of inputs of `pairrun` from standard input, each after its length, and prints what `pairrun` prints of each.
-use pair::pair_run;
-use printing::print_paired;
+use printing::print_pair;
 ghost use Prim.Native.Nat.{_<_};
 
 // The bytes of the longest case.
@@ -23,7 +22,7 @@ fn read_case(s: &mut [u8]) -> bool {
     if m < s.len() {
         return false;
     }
-    print_paired(pair_run(s));
+    print_pair(s);
     true
 }
 

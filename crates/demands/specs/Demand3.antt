@@ -1,0 +1,14 @@
+-- "Let P be any table that passes the checks, c1 and c2 any accepted pair, and Q the table that demand 2 makes of them. Whatever the step
+-- limit and whatever stands in the choice list, no run of P or Q, fresh or continued from a record that is not refused, meets an operand of
+-- the wrong kind or a cell outside its memory. And whatever the step limit, for each fresh run of P that does not end for want of cells there
+-- is a choice list under which a fresh run of Q with that limit uses exactly that list and ends the same way, at the same row, after as many
+-- steps, with both tracked circuits' cells equal; the tool writes that list whenever the room it is lent holds it, and ends with "list full"
+-- exactly when the room is shorter than the list."
+-- The claim about whole runs of the public functions stands in the specs of `choices`; what it means for the two lines of `pair_run`, in
+-- those of `pair`. Proved in proofs/Demand3Proof.
+use Rattle.choices.specs.Demand3.{Demand3Holds}
+use Rattle.pair.specs.Promises.{LinesMatch}
+
+pub record Demand3 : Type 0 where
+  pub wholeRuns : Demand3Holds
+  pub twoLines : LinesMatch

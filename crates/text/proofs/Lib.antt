@@ -1,0 +1,2 @@
+-- The theory of the printed text.
+pub mod TextLaws
