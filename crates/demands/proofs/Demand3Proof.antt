@@ -2,6 +2,7 @@
 -- Assumes nothing.
 use mathlib.Core.Path.{_≡_, _∙_}
 use Prim.Native.Nat.{ℕ, _+_, _<_}
+use native.Mathlib.Omega.{arith}
 use borrow.Author.Tests.{lt-ltb}
 use Rattle.table.specs.declared.Verdict.the-variants.{Passes}
 use Rattle.model.specs.Class.{pair}
@@ -16,4 +17,4 @@ pair-passes : (c1 c2 : ℕ) → c1 + 1 < c2 → placesCheck (pair c1 c2) ≡ Pas
 pair-passes c1 c2 h = rw (pair-accepted c1 c2 ∙ lt-ltb (c1 + 1) c2 h)
 
 pub demand3 : Demand3
-demand3 = record { wholeRuns = λ c1 c2 h. demand-3 (pair c1 c2) (pair-passes c1 c2 h); twoLines = lines-match }
+demand3 = record { wholeRuns = λ c1 c2 h. demand-3 (pair c1 c2) (pair-passes c1 c2 (omega (arith, h))); twoLines = lines-match }

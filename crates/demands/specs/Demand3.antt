@@ -5,7 +5,8 @@
 -- steps, with both tracked circuits' cells equal; the tool writes that list whenever the room it is lent holds it, and ends with "list full"
 -- exactly when the room is shorter than the list."
 -- The claim about whole runs of the public functions stands in the specs of `choices`, for any accepted places; here it is of a pair. What it
--- means for the two lines of `pair_run` stands in the specs of `pair`. Proved in proofs/Demand3Proof.
+-- means for the two lines of `pair_run` stands in the specs of `pair`. (rules 10.5 to 10.9.) Proved
+-- in proofs/Demand3Proof.
 use mathlib.Core.Path.{_≡_}
 use Prim.Native.Nat.{ℕ, _+_, _<_}
 use mathlib.Core.List.{List}
