@@ -2,11 +2,11 @@
 -- Assumes nothing.
 use mathlib.Core.Path.{_≡_, refl, sym, ap, _∙_, subst}
 use mathlib.Core.Logic.{inl, inr}
-use Prim.Native.Nat.{ℕ, _+_, _-_, _*_, _/_, _<_, _≤_}
+use Prim.Native.Nat.{ℕ, _+_, _*_, _<_, _≤_}
 use native.Mathlib.Omega.{arith}
 use native.Mathlib.Decide.{decLe}
 use mathlib.Core.Bool.{Bool, true, false}
-use mathlib.Core.List.{List, [], _∷_, _++_}
+use mathlib.Core.List.{List, [], _++_}
 use lib.ListN.{length, take, drop, replicate, length-replicate}
 use lib.Dec.{eqb, ltb}
 use Rattle.lists.specs.If.{if_then_else_}
@@ -43,12 +43,12 @@ use Rattle.model.specs.Demand3.{plainRun, reducedRun, choiceList}
 use Rattle.model.proofs.Demand3Proof.{fresh-can}
 use Rattle.runs.specs.Record.{recordFits, recordCheck}
 use Rattle.runs.specs.Checks.{runChecks}
-use Rattle.runs.specs.Answers.{Said, saidBy, ranSaid, freshSaid, continuedSaid}
+use Rattle.runs.specs.Answers.{saidBy, ranSaid, freshSaid, continuedSaid}
 use Rattle.runs.proofs.RecordLaws.{fits-can}
 use Rattle.choices.specs.Checks.{writerChecks}
 use Rattle.choices.specs.Answers.{wroteSaid, writerSaid}
 use Rattle.choices.specs.Answers.Said.{writes}
-use Rattle.pair.specs.Pairs.{LineSaid, PairSaid, saidBy as pairSaidBy, lineSaid, writtenChoices, linesSaid, tableSaid, readSaid, fileSaid, pairSaid}
+use Rattle.pair.specs.Pairs.{saidBy as pairSaidBy, lineSaid, writtenChoices, linesSaid, tableSaid, readSaid, fileSaid, pairSaid}
 use Rattle.pair.specs.Pairs.PairSaid.{refusal as notRunning}
 use Rattle.choices.proofs.Demand3Proof.{demand-3}
 use Rattle.demands.specs.Refusals.{Number, OneOf, fileNumbers, tableNumbers, pairNumbers, bufferNumbers, recordNumbers}
@@ -59,7 +59,7 @@ use Rattle.demands.proofs.StepLaws.{EndsWithin, ends-within}
 -- ---- runs
 module _ (numbers : List Number) (table cells choices : List ℕ) (limit : ℕ) where
   ran-right : (r : Report) → EndsWithin limit r → RunRight numbers table cells choices limit (ranSaid choices r)
-  ran-right (ended e n s left) h = (h, omega arith)
+  ran-right (ended e n s left) h = (omega (arith, h), omega arith)
   ran-right noEnd h = h
 
   said-right : (v : Verdict) (r : Report) → Checked numbers (linesOf table) v → (v ≡ Passes → EndsWithin limit r)
@@ -69,16 +69,20 @@ module _ (numbers : List Number) (table cells choices : List ℕ) (limit : ℕ) 
 
 -- a fresh run, and a run from a record
 module _ (m : MachineKind) (ps table choices : List ℕ) (limit : ℕ) where
-  from-right : (s : State) → tableCheck m table ≡ Passes → recordFits m ps (tableOf table) s ≡ true → EndsWithin limit (run ps (tableOf table) limit 0 s choices)
+  from-right : (s : State) → tableCheck m table ≡ Passes → recordFits m ps (tableOf table) s ≡ true
+      → EndsWithin limit (run ps (tableOf table) limit 0 s choices)
   from-right s e f =
       ends-within ps m (tableOf table) (passes-accepted m table e) s (fits-can m ps (tableOf table) s f .can) limit choices
+
+  fresh-within : tableCheck m table ≡ Passes → EndsWithin limit (run ps (tableOf table) limit 0 (fresh ps m (tableOf table)) choices)
+  fresh-within e =
+      ends-within ps m (tableOf table) (passes-accepted m table e) (fresh ps m (tableOf table)) (fresh-can ps m (tableOf table)) limit choices
 
   fresh-right : (numbers : List Number) (cells : List ℕ) → Checked numbers (linesOf table) (runChecks m ps table (length cells))
       → RunRight numbers table cells choices limit (freshSaid m ps table cells choices limit)
   unfolding freshSaid runChecks
   fresh-right numbers cells h = said-right numbers table cells choices limit (runChecks m ps table (length cells)) _ h
-      (λ e. ends-within ps m (tableOf table) (passes-accepted m table (both-pass (tableCheck m table) _ e .0)) (fresh ps m (tableOf table))
-          (fresh-can ps m (tableOf table)) limit choices)
+      (λ e. fresh-within (both-pass (tableCheck m table) _ e .0))
 
   continued-right : (numbers : List Number) (s : State)
       → Checked numbers (linesOf table) (andThen (runChecks m ps table (length (s .cells))) (recordCheck m ps (tableOf table) s))
@@ -105,7 +109,8 @@ module _ (table : List ℕ) (size : ℕ) where
 
   module _ (ps : List ℕ) where
     pair-checks : (m : MachineKind) (stated : ℕ)
-        → Checked (tableNumbers ++ (pairNumbers ++ bufferNumbers)) (linesOf table) (andThen (tableCheck m table) (andThen (placesCheck ps) (sizeCheck size stated)))
+        → Checked (tableNumbers ++ (pairNumbers ++ bufferNumbers)) (linesOf table)
+        (andThen (tableCheck m table) (andThen (placesCheck ps) (sizeCheck size stated)))
     pair-checks m stated =
         checked-then tableNumbers (pairNumbers ++ bufferNumbers) _ (tableCheck m table) _ (table-checked m table)
         (checked-then pairNumbers bufferNumbers _ (placesCheck ps) _ (places-checked ps _) (size-checked size stated _))
@@ -127,10 +132,12 @@ continue-plain : (table : List ℕ) (s : State) → Checked (tableNumbers ++ (bu
     (andThen (runChecks plain [] table (length (s .cells))) (recordCheck plain [] (tableOf table) s))
 unfolding runChecks
 continue-plain table s =
-    rw (then-again (tableCheck plain table) (sizeCheck (length (s .cells)) (cellCount plain)) (recordCheck plain [] (tableOf table) s))
+    let size = sizeCheck (length (s .cells)) (cellCount plain) in
+    let last = recordCheck plain [] (tableOf table) s in
+    let sized = size-checked (length (s .cells)) (cellCount plain) (linesOf table) in
+    rw (then-again (tableCheck plain table) size last)
     (checked-then tableNumbers (bufferNumbers ++ recordNumbers) _ (tableCheck plain table) _ (table-checked plain table)
-    (checked-then bufferNumbers recordNumbers _ (sizeCheck (length (s .cells)) (cellCount plain)) _ (size-checked (length (s .cells)) (cellCount plain) (linesOf table))
-    (record-checked plain [] (tableOf table) s _)))
+    (checked-then bufferNumbers recordNumbers _ size _ sized (record-checked plain [] (tableOf table) s _)))
 
 continue-reduced : (ps table : List ℕ) (s : State) → Checked (tableNumbers ++ (pairNumbers ++ (bufferNumbers ++ recordNumbers))) (linesOf table)
     (andThen (runChecks reduced ps table (length (s .cells))) (recordCheck reduced ps (tableOf table) s))
@@ -138,10 +145,11 @@ unfolding runChecks
 continue-reduced ps table s =
     let size = sizeCheck (length (s .cells)) (cellCount reduced) in
     let last = recordCheck reduced ps (tableOf table) s in
+    let sized = size-checked (length (s .cells)) (cellCount reduced) (linesOf table) in
     rw (then-again (tableCheck reduced table) (andThen (placesCheck ps) size) last, then-again (placesCheck ps) size last)
     (checked-then tableNumbers (pairNumbers ++ (bufferNumbers ++ recordNumbers)) _ (tableCheck reduced table) _ (table-checked reduced table)
     (checked-then pairNumbers (bufferNumbers ++ recordNumbers) _ (placesCheck ps) _ (places-checked ps _)
-    (checked-then bufferNumbers recordNumbers _ size _ (size-checked (length (s .cells)) (cellCount reduced) (linesOf table)) (record-checked reduced ps (tableOf table) s _))))
+    (checked-then bufferNumbers recordNumbers _ size _ sized (record-checked reduced ps (tableOf table) s _))))
 
 -- ---- files
 abbrev Listed : List Number → List ℕ → ℕ → Read → Type 0
@@ -171,7 +179,8 @@ unfolding readBuffer
 read-right bytes words = 
     go (readAnswer bytes (length words)) refl (read-listed bufferNumbers bytes 0 (length words) (λ e. inl (refl, omega arith)))
   where
-    go : (r : Read) → readAnswer bytes (length words) ≡ r → Listed (fileNumbers ++ bufferNumbers) bytes 0 r → ReadRight bytes words (bufferAfter r bytes words) r
+    go : (r : Read) → readAnswer bytes (length words) ≡ r → Listed (fileNumbers ++ bufferNumbers) bytes 0 r
+        → ReadRight bytes words (bufferAfter r bytes words) r
     go (Lines n) e h = let a = accepted bytes (length words) n e in omega (arith, a .counted, lines-most bytes (a .right))
     go (NotRead number place) e h = (h, refl)
 
@@ -208,7 +217,7 @@ module _ (ps table cells lent : List ℕ) (limit : ℕ) where
       elim (decLe (length (choiceList ps table limit)) (length lent)) [
         | yes l ↦ subst (WriterRight table cells lent limit) (sym (D .fits limit cells lent z l))
             (with-numbers (choiceList ps table limit) (plainRun table limit) (choiceList ps table limit ++ drop (length (choiceList ps table limit)) lent) l
-            (ends-within [] plain (tableOf table) (passes-accepted plain table e) (fresh [] plain (tableOf table)) (fresh-can [] plain (tableOf table)) limit []))
+            (fresh-within plain [] table [] limit e))
         | no l ↦ let F = D .full limit cells lent z (omega arith) in
             subst (WriterRight table cells lent limit) (sym (F .says ∙ ap (wroteSaid lent) (F .full .reportIs)))
             (omega (arith, F .full .within), F .full .fits)
@@ -235,11 +244,8 @@ module _ (ps : List ℕ) (limit : ℕ) (file : List ℕ) where
   lines-right : (P : List ℕ) → tableCheck plain P ≡ Passes → PairRight file limit (linesSaid ps limit P)
   unfolding linesSaid
   lines-right P e =
-      (line-right limit [] (plainRun P limit)
-          (ends-within [] plain (tableOf P) (passes-accepted plain P e) (fresh [] plain (tableOf P)) (fresh-can [] plain (tableOf P)) limit []),
-      line-right limit list (reducedRun ps (reduce P) limit list)
-          (ends-within ps reduced (tableOf (reduce P)) (passes-accepted reduced (reduce P) (reduction-passes P e)) (fresh ps reduced (tableOf (reduce P)))
-          (fresh-can ps reduced (tableOf (reduce P))) limit list))
+      (line-right limit [] (plainRun P limit) (fresh-within plain [] P [] limit e),
+          line-right limit list (reducedRun ps (reduce P) limit list) (fresh-within reduced ps (reduce P) list limit (reduction-passes P e)))
     where
       list : List ℕ
       list = writtenChoices ps limit P

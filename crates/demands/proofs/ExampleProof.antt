@@ -57,7 +57,8 @@ unfolding freshSaid runChecks
 run-is m ps table choices limit e p = rw (e, p, length-replicate {A = ℕ} (cellCount m) 0, eq-eqb (cellCount m) (cellCount m) refl) refl
 
 module _ (limit : ℕ) (choices : List ℕ) where
-  run-Q : runReduced Q limit choices ≡ shown (ranSaid choices (run (pair 1 3) (tableOf (reduce T)) limit 0 (fresh (pair 1 3) reduced (tableOf (reduce T))) choices))
+  run-Q : runReduced Q limit choices
+      ≡ shown (ranSaid choices (run (pair 1 3) (tableOf (reduce T)) limit 0 (fresh (pair 1 3) reduced (tableOf (reduce T))) choices))
   run-Q = ap shown (run-is reduced (pair 1 3) Q choices limit Q-passes places-pass) ∙ rw Q-is refl
 
 -- ---- the list, run by run

@@ -1,7 +1,7 @@
 -- Laws of refusals: a check refuses with a number of its own list, and one check after another with one of both lists.
 -- Assumes nothing.
 use mathlib.Core.Path.{_≡_, refl}
-use mathlib.Core.Logic.{_⊎_, inl, inr}
+use mathlib.Core.Logic.{inl, inr}
 use Prim.Native.Nat.{ℕ, _/_, _%_, _<_}
 use native.Mathlib.Omega.{arith}
 use mathlib.Core.Bool.{Bool, true, false}
@@ -42,9 +42,9 @@ more-blocks blocks lines number place [] h = h
 more-blocks blocks lines number place (n ∷ ns) (inl h) = inl (h .0, wider (n .place) (h .1))
   where
     wider : (p : Place) → place < placesOf 0 lines p → place < placesOf blocks lines p
-    wider atStart l = l
-    wider atBlock l = omega arith
-    wider atLine l = l
+    wider atStart l = omega (arith, l)
+    wider atBlock l = omega (arith, l)
+    wider atLine l = omega (arith, l)
 more-blocks blocks lines number place (n ∷ ns) (inr h) = inr (more-blocks blocks lines number place ns h)
 
 -- ---- one check after another

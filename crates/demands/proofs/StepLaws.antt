@@ -1,11 +1,10 @@
 -- A run takes at most as many steps as its limit, and comes to an end.
 -- Assumes nothing.
-use mathlib.Core.Path.{_≡_, refl}
-use Prim.Native.Nat.{ℕ, zero, suc, _+_, _-_, _≤_}
+use mathlib.Core.Path.{_≡_}
+use Prim.Native.Nat.{ℕ, zero, suc, _+_, _≤_}
 use native.Mathlib.Omega.{arith}
 use mathlib.Core.Bool.{Bool, true, false}
 use mathlib.Core.List.{List}
-use lib.ListN.{length}
 use Rattle.lists.specs.If.{if_then_else_}
 use Rattle.model.specs.Table.{Table}
 use Rattle.model.specs.Work.{Out}

@@ -1,6 +1,6 @@
 -- "The answer to any file, table, pair, record or choice list is a result or one of the fifteen numbers in document 01, at the place named
 -- there; a refusal writes to none of the buffers it was lent, and each run stops by its step limit."
--- Proved in proofs/Demand1Proof.
+-- (rules 10.1, 10.2.) Proved in proofs/Demand1Proof.
 use mathlib.Core.Path.{_≡_}
 use Prim.Native.Nat.{ℕ, _/_, _≤_}
 use mathlib.Core.List.{List, [], _++_}
@@ -32,8 +32,8 @@ use Rattle.demands.specs.Refusals.{Number, fileNumbers, tableNumbers, pa
 abbrev pub linesOf : List ℕ → ℕ
 linesOf table = length table / 4
 
--- ---- a result, or a refusal that its function can give; a buffer lent is then as it was. A run's steps are at most its limit, and the
--- outcome that is no end is no result
+-- ---- a result, or a refusal that its function can give (rule 6.21); a buffer lent is then as it was (rule 6.4). A run's steps are at most its
+-- limit (rule 2.28), and the outcome that is no end (rule 2.35) is no result
 abbrev pub Checked : List Number → ℕ → Verdict → Type 0
 Checked numbers n Passes = Unit {0}
 Checked numbers n (Refused number place) = OneOf numbers 0 n number place

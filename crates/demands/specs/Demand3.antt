@@ -4,11 +4,19 @@
 -- is a choice list under which a fresh run of Q with that limit uses exactly that list and ends the same way, at the same row, after as many
 -- steps, with both tracked circuits' cells equal; the tool writes that list whenever the room it is lent holds it, and ends with "list full"
 -- exactly when the room is shorter than the list."
--- The claim about whole runs of the public functions stands in the specs of `choices`; what it means for the two lines of `pair_run`, in
--- those of `pair`. Proved in proofs/Demand3Proof.
-use Rattle.choices.specs.Demand3.{Demand3Holds}
+-- The claim about whole runs of the public functions stands in the specs of `choices`, for any accepted places; here it is of a pair. What it
+-- means for the two lines of `pair_run` stands in the specs of `pair`. (rules 10.5 to 10.9.) Proved
+-- in proofs/Demand3Proof.
+use mathlib.Core.Path.{_≡_}
+use Prim.Native.Nat.{ℕ, _+_, _<_}
+use mathlib.Core.List.{List}
+use Rattle.table.specs.declared.Verdict.the-variants.{Passes}
+use Rattle.table.specs.Checks.{tableCheck}
+use Rattle.model.specs.Class.{pair}
+use Rattle.model.specs.State.MachineKind.{plain}
+use Rattle.choices.specs.Demand3.{Demand3 as WholeRuns}
 use Rattle.pair.specs.Promises.{LinesMatch}
 
 pub record Demand3 : Type 0 where
-  pub wholeRuns : Demand3Holds
+  pub wholeRuns : (c1 c2 : ℕ) → c1 + 1 < c2 → (P : List ℕ) → tableCheck plain P ≡ Passes → WholeRuns (pair c1 c2) P
   pub twoLines : LinesMatch

@@ -1,4 +1,4 @@
--- The examples that are proved: one list of answers of the public definitions, and what they must be.
+-- The examples that are proved (rule 10.11): one list of answers of the public definitions, and what they must be (rules 8.11 to 8.14).
 use mathlib.Core.Path.{_≡_}
 use Prim.Native.Nat.{ℕ}
 use mathlib.Core.List.{List, [], _∷_}
@@ -18,7 +18,7 @@ use Rattle.model.specs.Step.Report.{ended, noEnd}
 use Rattle.runs.specs.Answers.{Said, freshSaid}
 use Rattle.runs.specs.Answers.Said.{refusal, reports}
 
--- the table T, line by line
+-- the table T, line by line (rule 8.9)
 unfoldable pub T : List ℕ
 T =
     2 ∷ 1 ∷ 0 ∷ 0 ∷ 3 ∷ 1 ∷ 0 ∷ 0

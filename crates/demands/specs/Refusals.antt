@@ -1,11 +1,11 @@
--- The numbers of all refusals, each with what its place counts; and what it is that an answer refuses with one of them.
+-- The numbers of all refusals, each with what its place counts (section 6 of the rules); and what it is that an answer refuses with one of them.
 use mathlib.Core.Path.{_≡_}
 use mathlib.Core.Logic.{_⊎_}
 use Prim.Native.Nat.{ℕ, _<_}
 use mathlib.Core.List.{List, [], _∷_, _++_, map}
 use Rattle.table.specs.Checks.{order}
 
--- what a place counts: nothing, for it is 0; the blocks of a file; or the lines of a table
+-- what a place counts: nothing, for it is 0; the blocks of a file; or the lines of a table (rule 6.3)
 pub data Place : Type 0 where
   atStart atBlock atLine : Place
 
@@ -16,14 +16,16 @@ pub record Number : Type 0 where
 abbrev pub counted : Place → ℕ → Number
 counted p n = record { number = n; place = p }
 
--- ---- the numbers, by where they are checked, in the order in which they are tested
+-- ---- the numbers, by where they are checked, in the order in which they are tested (rule 6.2)
+-- a file (rules 6.5 to 6.7)
 abbrev pub fileNumbers : List Number
 fileNumbers = counted atStart 1 ∷ counted atBlock 2 ∷ counted atBlock 3 ∷ []
 
--- 4, then the checks of lines in their own order: 5 to 12
+-- a table: 4, then the checks of lines in their own order, 5 to 12 (rules 6.9 to 6.17)
 abbrev pub tableNumbers : List Number
 tableNumbers = counted atStart 4 ∷ map (counted atLine) order
 
+-- a pair, a buffer, a record (rules 6.18 to 6.20)
 abbrev pub pairNumbers : List Number
 pairNumbers = counted atStart 13 ∷ []
 
@@ -37,7 +39,7 @@ recordNumbers = counted atStart 15 ∷ []
 abbrev pub allNumbers : List Number
 allNumbers = fileNumbers ++ (tableNumbers ++ (pairNumbers ++ (bufferNumbers ++ recordNumbers)))
 
--- they are fifteen
+-- they are fifteen (rule 9.19)
 abbrev pub FifteenNumbers : Type 0
 FifteenNumbers =
     map (λ (n : Number). n .number) allNumbers

@@ -23,7 +23,6 @@ pub mod Kept
 pub mod MatchEval
 pub mod MatchStep
 pub mod MatchRun
--- the choice writer, demand 3 and the examples
+-- the choice writer and demand 3
 pub mod WriterLaws
 pub mod Demand3Proof
-pub mod ExampleProof

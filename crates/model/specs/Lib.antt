@@ -11,4 +11,3 @@ pub mod Agree
 pub mod Writer
 pub mod Accepted
 pub mod Demand3
-pub mod Examples

@@ -1,7 +1,7 @@
 -- Laws of the printed text: numbers in decimal, digit by digit; words put one after another; and how long a text can be.
 -- Assumes nothing.
 use mathlib.Core.Path.{_≡_, refl, sym, ap, _∙_}
-use Prim.Native.Nat.{ℕ, zero, suc, _+_, _*_, _/_, _%_, _^_, _≤_, _<_}
+use Prim.Native.Nat.{ℕ, zero, suc, _+_, _/_, _%_, _^_, _≤_, _<_}
 use Prim.Native.String.{String, len}
 use native.Mathlib.Omega.{arith}
 use native.Mathlib.Decide.{decLt}

@@ -1,4 +1,4 @@
--- What the bench program prints for an input, byte by byte.
+-- What the bench program prints for an input, byte by byte (section 8 of the rules).
 use Prim.Native.Nat.{ℕ, _+_, _/_, _%_}
 use Prim.Native.Char.{code}
 use Prim.Native.String.{String, len, charAt}
@@ -17,7 +17,7 @@ use Rattle.pair.specs.Pairs.PairSaid.{refusal, lines}
 unfoldable pub bytes : String → List ℕ
 bytes s = tab (len s) (λ i. code (charAt s i))
 
--- a number in decimal, with no zero in front
+-- a number in decimal, with no zero in front (rule 8.5)
 abbrev pub digit : ℕ → ℕ
 digit d = 48 + d
 
@@ -27,7 +27,7 @@ decimalBy n below = if ltb n 10 then digit n ∷ [] else below (n / 10) ++ (digi
 unfoldable pub decimal : ℕ → List ℕ
 decimal = valueAt decimalBy []
 
--- the word of an end; no run of a machine ends with the last
+-- the word of an end (rule 8.4); no run of a machine ends with the last
 abbrev pub endWord : End → String
 endWord done = "done"
 endWord assertFalse = "assert"
@@ -43,7 +43,7 @@ endWord listFull = "full"
 abbrev pub part : String → ℕ → List ℕ
 part name n = bytes name ++ decimal n
 
--- a run: its end, the row where it stands and the steps taken. There is no run without an end (Demand1 of `demands`)
+-- a run: its end, the row where it stands and the steps taken (rule 8.3). There is no run without an end (Demand1 of `demands`)
 abbrev pub runText : LineSaid → List ℕ
 runText (line e row steps used) = bytes (endWord e) ++ (part " row " row ++ part " steps " steps)
 runText noLine = []
@@ -53,7 +53,7 @@ abbrev pub choicesText : LineSaid → List ℕ
 choicesText (line e row steps used) = part " choices " used
 choicesText noLine = []
 
--- a refusal with its number and place; or the plain run, and the reduced run with its choices, each on a line
+-- a refusal with its number and place (rule 8.2); or the plain run, and the reduced run with its choices, each on a line (rule 8.3)
 unfoldable pub pairText : PairSaid → List ℕ
 pairText (refusal number place) = part "refused " number ++ (part " line " place ++ bytes "\n")
 pairText (lines plain pair) = bytes "plain " ++ (runText plain ++ (bytes "\npair " ++ (runText pair ++ (choicesText pair ++ bytes "\n"))))

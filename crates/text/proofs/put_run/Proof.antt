@@ -12,8 +12,9 @@ unfolding bytes tab listed
 returns c =
     let row = c .before .before .before .before .before .before .before .before in
     let steps = c .before .before in
+    let s = row .before .before .before .before .before .before .before .before .before in
     (then-put (row .before .before .before .before .before .before .put-end .ensures) (then-put (row .put-part .ensures .0) (steps .put-part2 .ensures .0)),
-        run-most (row .before .before .before .before .before .before .before .before .before .args .line) (row .put-part .ensures .1) (steps .put-part2 .ensures .1))
+        run-most (s .args .line) (row .put-part .ensures .1) (steps .put-part2 .ensures .1))
 
 pub put-run-spec : {M : Type 1} → statement M
 put-run-spec =

@@ -32,8 +32,8 @@ returns : tie.Need-returns Inv-loop μ-loop
 returns c =
     let h = c .before in
     let g = h .before .before .before .args in
-    subst (λ (xs : List ℕ). Puts xs (g .out .now) (g .at) (h .loop .out) (h .loop .next)) (take-all (h .loop .i) (g .word .now) (omega (arith, c .loop-test .left)))
-    (h .loop .inv .0)
+    subst (λ (xs : List ℕ). Puts xs (g .out .now) (g .at) (h .loop .out) (h .loop .next))
+    (take-all (h .loop .i) (g .word .now) (omega (arith, c .loop-test .left))) (h .loop .inv .0)
 
 pub put-word-spec : {M : Type 1} → statement M
 put-word-spec =
