@@ -2,9 +2,9 @@
 """Breaks the rules of docs/RULES.md one by one in the interpreters that the stored cases come from, and counts the cases that notice.
 
 The interpreters are those of run_cases (both machines, the choice writer, check 15), checked_files/rules.py (files, tables, pairs),
-pair_cases (`pairrun`) and write_rooms; the cases are the stored stdin and stdout of these four programs; breakages.py has the breakages. A
-case notices one if the broken interpreter prints something else of it than the stored lines. Printed is a table: the rule, what is broken,
-how many cases of which program notice.
+pair_cases (`pairrun`), write_rooms and test_buffers (lent buffers); the cases are the stored stdin and stdout of these five programs;
+breakages.py has the breakages. A case notices one if the broken interpreter prints something else of it than the stored lines. Printed is
+a table: the rule, what is broken, how many cases of which program notice.
 
 Run as: break_rules.py [--all] [WORDS], about two minutes; WORDS leaves only the breakages whose line has them. Once ENOUGH cases notice a
 breakage no more are tried, but with --all. The exit status is 1 if no case notices some breakage, and 2 if a patch no longer fits or an
@@ -18,12 +18,14 @@ import sys
 import types
 
 sys.dont_write_bytecode = True
-from breakages import BREAKAGES, PAIRS, ROOMS, RULES, RUNS  # noqa: E402
+from breakages import BREAKAGES, BUFFERS, PAIRS, ROOMS, RULES, RUNS  # noqa: E402
 
 CRATES = pathlib.Path(__file__).resolve().parent.parent
-NAMES = {RUNS: "make_cases", RULES: "rules", PAIRS: "pair_cases", ROOMS: "write_rooms"}
+NAMES = {RUNS: "make_cases", RULES: "rules", PAIRS: "pair_cases", ROOMS: "write_rooms", BUFFERS: "test_buffers"}
 SOURCES = {file: (CRATES / file).read_text() for file in NAMES}
-SOURCES[RUNS] = SOURCES[RUNS].split("\n\ndef document():")[0]  # the rest makes the cases
+# the rest of these makes the cases
+SOURCES[RUNS] = SOURCES[RUNS].split("\n\ndef document():")[0]
+SOURCES[BUFFERS] = SOURCES[BUFFERS].split("\n\n# Tables\n")[0]
 CODE = {file: compile(text, file, "exec") for file, text in SOURCES.items()}
 ENOUGH = 5
 MOST_STEPS = 120
@@ -119,7 +121,7 @@ def quick(words):
 
 
 class Stored:
-    """The cases of all four programs, which the interpreters that are not broken must agree with."""
+    """The cases of all five programs, which the interpreters that are not broken must agree with."""
 
     def __init__(self, modules):
         runs, rules = modules[RUNS], modules[RULES]
@@ -164,6 +166,14 @@ class Stored:
             self.agrees("checked_files", rules.line_of(data), line)
         self.agrees("checked_files", len(cases), len(lines))
 
+        buffers = modules[BUFFERS]
+        cases, lines = stored("test_buffers")
+        for data, line in zip(cases, lines):
+            self.agrees("test_buffers", buffers.line_of(data), line)
+        self.agrees("test_buffers", len(cases), len(lines))
+        buffers.check_number = quick
+        self.buffers = [(data, buffers.line_of(data)) for data in cases]
+
         self.rooms = (CRATES / "write_rooms" / "stdout").read_text().splitlines()
         self.agrees("write_rooms", modules[ROOMS].lines(), self.rooms)
 
@@ -183,12 +193,12 @@ class Stored:
 # What notices
 
 
-def differs(breakage, expected, printed, *given):
+def differs(breakage, expected, printed, *given, stops=False):
     """Whether a broken interpreter prints something else; a breakage may say that it can stop short."""
     try:
         return printed(*given) != expected
     except STOPS:
-        if breakage.stops:
+        if breakage.stops or stops:
             return True
         raise
 
@@ -217,6 +227,18 @@ def tried_on_runs(b, modules, cases):
             yield "pair_cases", differs(b, case.expected, case.printed, modules[PAIRS])
 
 
+def tried_on_buffers(b, modules, cases):
+    """Breakages of what is done with lent buffers, or of the rules beneath; a function that is handed what it cannot take may stop."""
+
+    def tried(number):
+        return not b.refused or number in b.refused
+
+    modules[BUFFERS].check_number = quick
+    for data, line in cases.buffers:
+        if tried(number_of(line)):
+            yield "test_buffers", differs(b, line, modules[BUFFERS].line_of, data, stops=True)
+
+
 def tried_on_rules(b, rules, cases):
     """Breakages of the file and of the checks up to 13; what comes after a refusal that changes is not run."""
 
@@ -241,10 +263,20 @@ def tried_on_rules(b, rules, cases):
             yield "pair_cases", differs(b, case.refusal, refusal_of, case.data)
 
 
+def tried(b, modules, cases):
+    """For each case that a breakage may change its program, and whether it notices."""
+    if b.file == RULES:
+        yield from tried_on_rules(b, modules[RULES], cases)
+    elif b.file != BUFFERS:
+        yield from tried_on_runs(b, modules, cases)
+    if b.file in (RULES, BUFFERS) or b.reduces:
+        yield from tried_on_buffers(b, modules, cases)
+
+
 def noticed(b, cases, enough):
     """How many cases of which program notice a breakage; no more are tried once there are enough."""
     modules, found = loaded(b), {}
-    for program, notices in tried_on_rules(b, modules[RULES], cases) if b.file == RULES else tried_on_runs(b, modules, cases):
+    for program, notices in tried(b, modules, cases):
         if notices:
             found[program] = found.get(program, 0) + 1
         if sum(found.values()) == enough:

@@ -5,6 +5,7 @@ error. A breakage may say which cases it can change: those whose table has one o
 checks those that one of some numbers refuses. Those not named are not run.
 """
 RUNS, RULES, PAIRS, ROOMS = "run_cases/make_cases.py", "checked_files/rules.py", "pair_cases/make_cases.py", "write_rooms/make_cases.py"
+BUFFERS = "test_buffers/make_cases.py"
 BREAKAGES = []
 
 
@@ -2188,3 +2189,139 @@ broken("3.1", "c1 above c2 passes", (GAP, "    if abs(c2 - c1) < 2:\n"), file=RU
 broken("3.1", "13 is not tested", (GAP, "    if False:\n"), file=RULES)
 broken("3.1", "c1 = 0 is refused", (GAP, "    if c1 == 0 or not c1 + 1 < c2:\n"), file=RULES)
 broken("3.1", "the places are compared with a sign", (GAP, "    if not c1 + 1 < c2 or c2 >= 2**31 > c1:\n"), file=RULES)
+
+# Lent buffers: the reader
+
+
+def lent(rule, what, *patches, **more):
+    broken(rule, what, *patches, file=BUFFERS, **more)
+
+
+READ_INTO = "    lent[:] = words + [0] * (READ_WORDS - len(words))\n"
+lent("5.9", "the reader leaves the other words", (READ_INTO, "    lent[: len(words)] = words\n"))
+lent("5.9", "the reader leaves the last word", (READ_INTO, "    lent[:-1] = (words + [0] * READ_WORDS)[: READ_WORDS - 1]\n"))
+KEPT = "    kept = lent[-(-len(lines) // 31) * 124 :]\n" + READ_INTO + "    lent[len(lent) - len(kept) :] = kept\n"
+lent("5.9", "the reader leaves the words after the last block", (READ_INTO, KEPT))
+lent("5.9", "the reader puts the table at the end", (READ_INTO, "    lent[:] = [0] * (READ_WORDS - len(words)) + words\n"))
+ALONE = READ_INTO.replace("words +", "[w * (i % 4 == 0) for i, w in enumerate(words)] +")
+lent("5.9", "the reader puts the kinds alone", (READ_INTO, ALONE))
+lent("5.9", "the reader writes nothing", (READ_INTO, ""))
+lent("5.9", "the reader answers the number of words", ('"lines %d" % len(lines)', '"lines %d" % len(words)'))
+lent("5.9", "the reader answers the lines of the last block", ('"lines %d" % len(lines)', '"lines %d" % (len(lines) % 31)'))
+READ_14 = "    if refusal is None and len(lent) != READ_WORDS:\n        refusal = (14, 0)\n"
+lent("6.21", "the reader takes more than 5,248 words", (READ_14, READ_14.replace("!=", "<")))
+lent("6.21", "the reader takes fewer than 5,248 words", (READ_14, READ_14.replace("!=", ">")))
+lent("6.21", "the reader takes any number of words", (READ_14, ""))
+lent("6.21", "the reader takes no words for no lines", (READ_14, READ_14.replace(":\n", " and (lent or lines):\n", 1)))
+lent("6.21", "the reader takes the words of the table", (READ_14, READ_14.replace(":\n", " and len(lent) != 4 * len(lines):\n", 1)))
+lent("6.19", "the reader wants as many words as the table has", (READ_14, READ_14.replace("READ_WORDS", "4 * len(lines)")))
+lent("6.3", "14 of the reader tells the size as its place", (READ_14, READ_14.replace("(14, 0)", "(14, len(lent))")))
+for test, what in ("<= 3", "1 to 3"), ("== 1", "1"), ("== 2", "2"), ("== 3", "3"):
+    early = READ_14.replace("refusal is None", "(refusal is None or refusal[0] %s)" % test)
+    lent("6.2", "14 of the reader comes before %s" % what, (READ_14, early))
+READS = "    words = rules.flat(lines)\n"
+CHECKED = "    refusal = rules.check_table(rules.flat(lines), False)\n    if refusal is not None:\n        return refused(refusal)\n"
+lent("6.21", "the reader checks the table", (READS, CHECKED + READS))
+GIVEN_UP = "    if refusal is not None:\n        return refused(refusal)\n"
+READ_GIVEN_UP = GIVEN_UP + READS
+for test, what in ("True", "a refused reader"), ("refusal[0] == 14", "14 of the reader"), ("refusal[0] < 14", "1 to 3 of the reader"):
+    zeroed = "    if refusal is not None and %s:\n        lent[:] = [0] * len(lent)\n" % test
+    lent("6.4", "%s zeroes the words" % what, (READ_GIVEN_UP, zeroed + READ_GIVEN_UP))
+for number in 1, 2, 3, 14:
+    zeroed = "    if refusal is not None and refusal[0] == %d and lent:\n        lent[0] = 0\n" % number
+    lent("6.4", "%d of the reader zeroes the first word" % number, (READ_GIVEN_UP, zeroed + READ_GIVEN_UP))
+    last = zeroed.replace("lent[0]", "lent[-1]")
+    lent("6.4", "%d of the reader zeroes the last word" % number, (READ_GIVEN_UP, last + READ_GIVEN_UP))
+
+# Lent buffers: the writer
+
+WRITE_INTO = "    lent[:] = list(data) + [0] * (WRITTEN_BYTES - len(data))\n"
+lent("5.10", "the writer leaves the other bytes", (WRITE_INTO, "    lent[: len(data)] = data\n"))
+lent("5.10", "the writer leaves the last byte", (WRITE_INTO, "    lent[:-1] = (list(data) + [0] * WRITTEN_BYTES)[: WRITTEN_BYTES - 1]\n"))
+KEPT = "    kept = lent[len(data) : len(data) + 512]\n" + WRITE_INTO + "    lent[len(data) : len(data) + 512] = kept\n"
+lent("5.10", "the writer leaves the bytes of the next block", (WRITE_INTO, KEPT))
+lent("5.10", "the writer puts the file at the end", (WRITE_INTO, "    lent[:] = [0] * (WRITTEN_BYTES - len(data)) + list(data)\n"))
+lent("5.10", "the writer writes nothing", (WRITE_INTO, ""))
+ALONE = WRITE_INTO.replace("list(data)", "list(data[:-4]) + [0] * len(data[-4:])")
+lent("5.10", "the writer writes no check into the last block", (WRITE_INTO, ALONE))
+lent("5.10", "the writer answers the number of lines", ('"bytes %d" % len(data)', '"bytes %d" % (len(words) // 4)'))
+lent("5.10", "the writer answers the number of blocks", ('"bytes %d" % len(data)', '"bytes %d" % (len(data) // 512)'))
+lent("5.10", "the writer answers the size lent", ('"bytes %d" % len(data)', '"bytes %d" % len(lent)'))
+WRITE_14 = "    if refusal is None and len(lent) != WRITTEN_BYTES:\n        refusal = (14, 0)\n"
+lent("6.21", "the writer takes more than 22,016 bytes", (WRITE_14, WRITE_14.replace("!=", "<")))
+lent("6.21", "the writer takes fewer than 22,016 bytes", (WRITE_14, WRITE_14.replace("!=", ">")))
+lent("6.21", "the writer takes any number of bytes", (WRITE_14, ""))
+lent("6.21", "the writer takes no bytes for no lines", (WRITE_14, WRITE_14.replace(":\n", " and (lent or words):\n", 1)))
+FITTING = "512 * -(-len(words) // 124)"
+lent("6.21", "the writer takes the bytes of the file", (WRITE_14, WRITE_14.replace(":\n", " and len(lent) != %s:\n" % FITTING, 1)))
+lent("6.19", "the writer wants as many bytes as the file has", (WRITE_14, WRITE_14.replace("WRITTEN_BYTES", FITTING)))
+lent("6.3", "14 of the writer tells the size as its place", (WRITE_14, WRITE_14.replace("(14, 0)", "(14, len(lent))")))
+for test, what in [("<= 12", "4 to 12")] + [("== %d" % n, str(n)) for n in range(4, 13)]:
+    early = WRITE_14.replace("refusal is None", "(refusal is None or refusal[0] %s)" % test)
+    lent("6.2", "14 of the writer comes before %s" % what, (WRITE_14, early))
+WRITE_CHECK = "def write_file(words, lent):\n    refusal = rules.check_table(words, False)\n"
+lent("6.21", "the writer checks by the rules of reduced tables", (WRITE_CHECK, WRITE_CHECK.replace("False", "True")), stops=True)
+lent("6.21", "the writer checks no table", (WRITE_CHECK, WRITE_CHECK.replace("rules.check_table(words, False)", "None")), stops=True)
+for number in range(4, 13):
+    passed = "    if refusal is not None and refusal[0] == %d:\n        refusal = None\n" % number
+    lent("5.10", "the writer takes a table that %d refuses" % number, (WRITE_CHECK, WRITE_CHECK + passed), stops=True)
+WRITES = "    data = rules.write(lines_of(words))\n"
+WRITE_GIVEN_UP = GIVEN_UP + WRITES
+for test, what in ("True", "a refused writer"), ("refusal[0] == 14", "14 of the writer"), ("refusal[0] < 14", "4 to 12 of the writer"):
+    zeroed = "    if refusal is not None and %s:\n        lent[:] = [0] * len(lent)\n" % test
+    lent("6.4", "%s zeroes the bytes" % what, (WRITE_GIVEN_UP, zeroed + WRITE_GIVEN_UP))
+for number in (*range(4, 13), 14):
+    zeroed = "    if refusal is not None and refusal[0] == %d and lent:\n        lent[0] = 0\n" % number
+    lent("6.4", "%d of the writer zeroes the first byte" % number, (WRITE_GIVEN_UP, zeroed + WRITE_GIVEN_UP))
+    last = zeroed.replace("lent[0]", "lent[-1]")
+    lent("6.4", "%d of the writer zeroes the last byte" % number, (WRITE_GIVEN_UP, last + WRITE_GIVEN_UP))
+
+# Lent buffers: the reduction, and the checks by themselves
+
+REDUCES = "    lent[:] = rules.flat(Table(lines_of(words)).reduced().lines)\n"
+lent("3.3", "the reduction writes the plain table", (REDUCES, "    lent[:] = words\n"))
+lent("3.3", "the reduction writes nothing", (REDUCES, ""))
+lent("3.3", "the reduction leaves the last word", (REDUCES, REDUCES.replace("[:]", "[:-1]").replace(".lines)", ".lines)[:-1]")))
+lent("3.3", "the reduction leaves the last line", (REDUCES, REDUCES.replace("[:]", "[:-4]").replace(".lines)", ".lines)[:-4]")))
+lent("3.3", "the reduction leaves the operands", (REDUCES, REDUCES.replace("[:]", "[::4]").replace(".lines)", ".lines)[::4]")))
+lent("3.3", "the reduction leaves the kinds", (REDUCES, "    kinds = lent[::4]\n" + REDUCES + "    lent[::4] = kinds\n"))
+REDUCE_14 = "    if refusal is None and len(lent) != len(words):\n        refusal = (14, 0)\n"
+lent("6.21", "the reduction takes a longer table", (REDUCE_14, REDUCE_14.replace("!=", "<")), stops=True)
+lent("6.21", "the reduction takes a shorter table", (REDUCE_14, REDUCE_14.replace("!=", ">")), stops=True)
+lent("6.21", "the reduction takes a table of any size", (REDUCE_14, ""), stops=True)
+lent("6.21", "the reduction takes 5,248 words too", (REDUCE_14, REDUCE_14.replace(":\n", " and len(lent) != 5248:\n", 1)), stops=True)
+lent("6.21", "the reduction wants 5,248 words", (REDUCE_14, REDUCE_14.replace("len(words)", "5248")), stops=True)
+LINES_14 = REDUCE_14.replace("len(lent) != len(words)", "len(lent) // 4 != len(words) // 4")
+lent("6.21", "the reduction compares numbers of lines", (REDUCE_14, LINES_14))
+lent("6.3", "14 of the reduction tells the size as its place", (REDUCE_14, REDUCE_14.replace("(14, 0)", "(14, len(lent))")))
+for test, what in [("== 13", "13"), ("<= 12", "4 to 12")] + [("== %d" % n, str(n)) for n in range(4, 13)]:
+    early = REDUCE_14.replace("refusal is None", "(refusal is None or refusal[0] %s)" % test)
+    lent("6.2", "14 of the reduction comes before %s" % what, (REDUCE_14, early))
+REDUCE_13 = "    if refusal is None:\n        refusal = rules.check_pair(c1, c2)\n"
+lent("6.21", "the reduction takes any pair", (REDUCE_13, ""))
+lent("6.2", "13 of the reduction comes before 4 to 12", (REDUCE_13, "    refusal = rules.check_pair(c1, c2) or refusal\n"))
+REDUCE_CHECK = "def reduce_table(words, c1, c2, lent):\n    refusal = rules.check_table(words, False)\n"
+lent("6.21", "the reduction checks by the rules of reduced tables", (REDUCE_CHECK, REDUCE_CHECK.replace("False", "True")), stops=True)
+lent("6.21", "the reduction checks no table", (REDUCE_CHECK, REDUCE_CHECK.replace("rules.check_table(words, False)", "None")), stops=True)
+REDUCE_GIVEN_UP = GIVEN_UP + REDUCES
+for test, what in (
+    ("True", "a refused reduction"),
+    ("refusal[0] == 14", "14 of the reduction"),
+    ("refusal[0] == 13", "13 of the reduction"),
+    ("refusal[0] < 13", "4 to 12 of the reduction"),
+):
+    zeroed = "    if refusal is not None and %s:\n        lent[:] = [0] * len(lent)\n" % test
+    lent("6.4", "%s zeroes the lent table" % what, (REDUCE_GIVEN_UP, zeroed + REDUCE_GIVEN_UP))
+    copied = "    if refusal is not None and %s:\n        lent[:] = (words + lent)[: len(lent)]\n" % test
+    lent("6.4", "%s leaves the plain table" % what, (REDUCE_GIVEN_UP, copied + REDUCE_GIVEN_UP))
+for number in range(4, 15):
+    zeroed = "    if refusal is not None and refusal[0] == %d and lent:\n        lent[0] = 0\n" % number
+    lent("6.4", "%d of the reduction zeroes the first word" % number, (REDUCE_GIVEN_UP, zeroed + REDUCE_GIVEN_UP))
+    last = zeroed.replace("lent[0]", "lent[-1]")
+    lent("6.4", "%d of the reduction zeroes the last word" % number, (REDUCE_GIVEN_UP, last + REDUCE_GIVEN_UP))
+ALONE = "rules.check_pair(c1, c2) if function == PAIR else rules.check_table(words, function == REDUCED)"
+lent("6.21", "check_table checks each table as a plain one", (ALONE, ALONE.replace("function == REDUCED", "False")))
+lent("6.21", "check_table checks each table as a reduced one", (ALONE, ALONE.replace("function == REDUCED", "True")))
+lent("6.21", "check_table checks a pair too", (ALONE, ALONE.replace("REDUCED)", "REDUCED) or rules.check_pair(c1, c2)")))
+BOTH = ALONE.replace("(c1, c2) if", "(c1, c2) or rules.check_table(words, False) if")
+lent("6.21", "check_pair checks a table too", (ALONE, BOTH))
