@@ -1,6 +1,7 @@
 // Runs cases of files from standard input, each after its length: the reader, the table checks, the pair check, the reduction and the
 // writer, and prints a line for each case.
-ghost use Prim.Native.Nat.{_<_};
+use testing::print_part;
+use testing::word;
 
 const ROOM: usize = 22541;
 
@@ -9,28 +10,8 @@ const TABLE: usize = 5248;
 const FILE: usize = 22016;
 
 fn refused(number: u32, place: u64) {
-    io::write_all(1, b"refused ");
-    io::print_decimal(1, number as u64);
-    io::write_all(1, b" line ");
-    io::print_decimal(1, place);
+    testing::print_refusal(number, place);
     io::write_all(1, b"\n");
-}
-
-fn wide(b: u8) -> u32
-    ensures { λ r. ⌜ r < 256 ⌝ }
-{
-    b as u32
-}
-
-// The little-endian word at a place, or 0 where the slice has no such word.
-fn word(s: &[u8], at: usize) -> u32 {
-    if s.len() < 4 {
-        return 0;
-    }
-    if s.len() - 4 < at {
-        return 0;
-    }
-    wide(s[at]) + 256 * wide(s[at + 1]) + 65536 * wide(s[at + 2]) + 16777216 * wide(s[at + 3])
 }
 
 // The table is written again as the file that it was read from.
@@ -42,8 +23,7 @@ fn written_again(words: &[u32], file: &[u8]) {
             let end = n as usize;
             if end <= FILE {
                 if check::same(&out[..end], file) {
-                    io::write_all(1, b"passes ");
-                    io::print_decimal(1, (words.len() / 4) as u64);
+                    print_part(b"passes ", (words.len() / 4) as u64);
                     io::write_all(1, b"\n");
                     return;
                 }
@@ -108,34 +88,19 @@ fn report(s: &[u8]) {
     read(&s[12..], word(s, 0), word(s, 4), word(s, 8));
 }
 
-// Reads a case into a lent buffer as long as it: whether it was there.
-fn read_case(s: &mut [u8]) -> bool {
-    let m = io::read_full(0, s);
-    if m < s.len() {
-        return false;
-    }
-    report(s);
-    true
-}
-
 // One case: whether there was one.
-fn run() -> bool {
-    let mut length = [0u8; 4];
-    let got = io::read_full(0, &mut length);
-    if got < 4 {
-        return false;
+fn run(room: &mut [u8]) -> bool {
+    let c = testing::next_case(room);
+    if c.there {
+        report(&room[..c.bytes]);
     }
-    let n = word(&length, 0) as usize;
-    if ROOM < n {
-        return false;
-    }
-    let mut s = [0u8; ROOM];
-    read_case(&mut s[..n])
+    c.there
 }
 
 fn main() {
+    let mut room = [0u8; ROOM];
     let mut k: u32 = 0;
-    while k < 1000 && run() {
+    while k < 1000 && run(&mut room) {
         k += 1;
     }
 }

@@ -1,10 +1,15 @@
 // Runs cases of tables from standard input, each after its length: a fresh run of a machine and the runs that continue it. It prints a
 // line for each run, with check numbers of the record and of the cells. make_cases.py says how a case is laid out.
-use machine::End;
+use lists::word_or_zero;
 use machine::Machine;
 use runs::Answered;
 use runs::Ran;
 use table::Verdict;
+use testing::check_of;
+use testing::mixed;
+use testing::print_end;
+use testing::print_part;
+use testing::size;
 ghost use Prim.Native.Nat.{_<_};
 
 const ROOM: usize = 262144;
@@ -29,53 +34,7 @@ struct Kept {
     used: usize,
 }
 
-fn wide(b: u8) -> u32
-    ensures { λ r. ⌜ r < 256 ⌝ }
-{
-    b as u32
-}
-
-fn size(n: u32) -> usize
-    ensures { λ r. ⌜ r < 4294967296 ⌝ }
-{
-    n as usize
-}
-
-// The little-endian word at a place, or 0 where the slice has no such word.
-fn word(s: &[u8], at: usize) -> u32 {
-    if s.len() < 4 {
-        return 0;
-    }
-    if s.len() - 4 < at {
-        return 0;
-    }
-    wide(s[at]) + 256 * wide(s[at + 1]) + 65536 * wide(s[at + 2]) + 16777216 * wide(s[at + 3])
-}
-
-// The word at a place, or 0 where the slice has no such word.
-fn word_or_zero(s: &[u32], at: usize) -> u32 {
-    if at < s.len() {
-        return s[at];
-    }
-    0
-}
-
 // Check numbers
-
-// h * 31 + w, modulo 2^32.
-fn mixed(h: u32, w: u32) -> u32 {
-    ((h as u64 * 31 + w as u64) % 4294967296) as u32
-}
-
-fn check_of(s: &[u32]) -> u32 {
-    let mut h: u32 = 0;
-    let mut i: usize = 0;
-    while i < s.len() {
-        h = mixed(h, s[i]);
-        i += 1;
-    }
-    h
-}
 
 fn with_loops(mut h: u32, m: Machine) -> u32 {
     let open = m.open as usize;
@@ -145,26 +104,6 @@ fn record_check(m: Machine, t: &[u32]) -> u32 {
 
 // Output
 
-fn print_part(name: &[u8], n: u64) {
-    io::write_all(1, name);
-    io::print_decimal(1, n);
-}
-
-// Whether the name of an end was written.
-fn print_end(e: End) -> bool {
-    match e {
-        End::Done => io::write_all(1, b"done"),
-        End::AssertFalse => io::write_all(1, b"assert"),
-        End::AssumeFalse => io::write_all(1, b"assume"),
-        End::Fail => io::write_all(1, b"fail"),
-        End::WantOfCells => io::write_all(1, b"room"),
-        End::OutOfSteps => io::write_all(1, b"steps"),
-        End::ChoiceNotAllowed => io::write_all(1, b"badchoice"),
-        End::NoChoiceLeft => io::write_all(1, b"nochoice"),
-        End::ListFull => io::write_all(1, b"full"),
-    }
-}
-
 fn print_ran(r: Ran, t: &[u32]) {
     let e = r.end;
     let m = r.machine;
@@ -178,10 +117,7 @@ fn print_ran(r: Ran, t: &[u32]) {
 fn print_answer(a: Answered, t: &[u32], cells: &[u32]) {
     let v = a.verdict;
     match v {
-        Verdict::Refused(number, place) => {
-            print_part(b"refused ", number as u64);
-            print_part(b" line ", place as u64);
-        }
+        Verdict::Refused(number, place) => testing::print_refusal(number, place as u64),
         Verdict::Passes => {
             let r = a.ran;
             print_ran(r, t);
@@ -420,22 +356,14 @@ fn run_case(w: &[u32]) -> bool {
     true
 }
 
-// Puts a case's bytes into a lent buffer of so many words, and runs it.
+// Puts the words of a case into a lent buffer, and runs it.
 fn filled_case(words: &mut [u32], s: &[u8]) -> bool {
-    let mut i: usize = 0;
-    while i < words.len() {
-        words[i] = word(s, i * 4);
-        i += 1;
-    }
+    testing::put_words(words, s);
     run_case(words)
 }
 
-// Reads a case into a lent buffer as long as it: whether it was there, and fits.
-fn read_case(s: &mut [u8]) -> bool {
-    let m = io::read_full(0, s);
-    if m < s.len() {
-        return false;
-    }
+// Runs a case: whether it fits.
+fn report(s: &[u8]) -> bool {
     let n = s.len() / 4;
     if WORDS < n {
         return false;
@@ -444,24 +372,19 @@ fn read_case(s: &mut [u8]) -> bool {
     filled_case(&mut words[..n], s)
 }
 
-// One case: whether there was one.
-fn run() -> bool {
-    let mut length = [0u8; 4];
-    let got = io::read_full(0, &mut length);
-    if got < 4 {
+// One case: whether there was one that fits.
+fn run(room: &mut [u8]) -> bool {
+    let c = testing::next_case(room);
+    if !c.there {
         return false;
     }
-    let n = word(&length, 0) as usize;
-    if ROOM < n {
-        return false;
-    }
-    let mut s = [0u8; ROOM];
-    read_case(&mut s[..n])
+    report(&room[..c.bytes])
 }
 
 fn main() {
+    let mut room = [0u8; ROOM];
     let mut k: u32 = 0;
-    while k < 100000 && run() {
+    while k < 100000 && run(&mut room) {
         k += 1;
     }
 }

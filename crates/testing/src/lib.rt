@@ -4,9 +4,10 @@ use file::word::word_at;
 use machine::End;
 use table::Verdict;
 ghost use mathlib.Core.Path.{_≡_};
-ghost use Prim.Native.Nat.{_+_, _<_, _≤_};
+ghost use Prim.Native.Nat.{_<_, _≤_};
 ghost use lib.ListN.{length};
-ghost use Rattle.file.specs.Word.{wordAt};
+ghost use Rattle.testing.specs.Cases.{wordOrZero, wordsOf};
+ghost use Rattle.testing.specs.Checks.{mixedWith, checkNumber};
 
 // Cases
 
@@ -25,7 +26,7 @@ pub fn size(n: u32) -> usize
 
 // The word that the four bytes from a place on spell, the lowest first, or 0 where they are not all there.
 pub fn word(s: &[u8], at: usize) -> u32
-    ensures { λ r. ⌜ (at + 3 < length (now (s .entry)) → r ≡ wordAt (now (s .entry)) at) ⌝ }
+    ensures { λ r. ⌜ r ≡ wordOrZero (now (s .entry)) at ⌝ }
 {
     if s.len() < 4 {
         return 0;
@@ -37,7 +38,9 @@ pub fn word(s: &[u8], at: usize) -> u32
 }
 
 // Puts the words that bytes spell into as many lent words, 0 where the bytes end.
-pub fn put_words(words: &mut [u32], s: &[u8]) {
+pub fn put_words(words: &mut [u32], s: &[u8])
+    ensures { λ _. ⌜ now (words .exit) ≡ wordsOf (now (s .entry)) (length (now (words .entry))) ⌝ }
+{
     let mut i: usize = 0;
     while i < words.len() {
         words[i] = word(s, i * 4);
@@ -114,12 +117,16 @@ pub fn print_end(e: End) -> bool {
 // Check numbers
 
 // The check number with one word more: h * 31 + w, modulo 2^32.
-pub fn mixed(h: u32, w: u32) -> u32 {
+pub fn mixed(h: u32, w: u32) -> u32
+    ensures { λ r. ⌜ r ≡ mixedWith h w ⌝ }
+{
     ((h as u64 * 31 + w as u64) % 4294967296) as u32
 }
 
 // The check number of words, from 0 on.
-pub fn check_of(s: &[u32]) -> u32 {
+pub fn check_of(s: &[u32]) -> u32
+    ensures { λ r. ⌜ r ≡ checkNumber (now (s .entry)) ⌝ }
+{
     let mut h: u32 = 0;
     let mut i: usize = 0;
     while i < s.len() {
@@ -136,7 +143,9 @@ fn wide(b: u8) -> u32
 }
 
 // The check number of bytes, from 0 on.
-pub fn check_of_bytes(s: &[u8]) -> u32 {
+pub fn check_of_bytes(s: &[u8]) -> u32
+    ensures { λ r. ⌜ r ≡ checkNumber (now (s .entry)) ⌝ }
+{
     let mut h: u32 = 0;
     let mut i: usize = 0;
     while i < s.len() {

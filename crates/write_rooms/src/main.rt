@@ -1,8 +1,8 @@
 // Writes the choices of T (rule 8.9) for the pair 1, 3 into lists of every length from 0 to 31, lent full of sevens, and prints for each
 // the end, the row, the steps, how many numbers were written, and the list at exit.
-use machine::End;
 use runs::Answered;
 use table::Verdict;
+use testing::print_part;
 ghost use Prim.Native.Nat.{_≤_};
 
 const MOST: usize = 31;
@@ -77,38 +77,8 @@ const T: [u32; 64] = [
     0,
 ];
 
-fn print_end(end: End) {
-    match end {
-        End::Done => {
-            io::write_all(1, b" done");
-        }
-        End::AssertFalse => {
-            io::write_all(1, b" assert");
-        }
-        End::AssumeFalse => {
-            io::write_all(1, b" assume");
-        }
-        End::Fail => {
-            io::write_all(1, b" fail");
-        }
-        End::WantOfCells => {
-            io::write_all(1, b" room");
-        }
-        End::OutOfSteps => {
-            io::write_all(1, b" steps");
-        }
-        End::ListFull => {
-            io::write_all(1, b" full");
-        }
-        End::ChoiceNotAllowed | End::NoChoiceLeft => {
-            io::write_all(1, b" wrong");
-        }
-    }
-}
-
 fn print_word(word: u32) {
-    io::write_all(1, b" ");
-    io::print_decimal(1, word as u64);
+    print_part(b" ", word as u64);
 }
 
 fn print_list(list: &[u32]) {
@@ -122,20 +92,18 @@ fn print_list(list: &[u32]) {
 
 fn print_answer(a: Answered) {
     let v = a.verdict;
+    io::write_all(1, b" ");
     let Verdict::Passes = v else {
-        io::write_all(1, b" refused");
+        testing::print_verdict(v);
         return;
     };
     let w = a.ran;
     let end = w.end;
-    print_end(end);
+    testing::print_end(end);
     let m = w.machine;
-    io::write_all(1, b" row ");
-    io::print_decimal(1, m.row as u64);
-    io::write_all(1, b" steps ");
-    io::print_decimal(1, w.steps as u64);
-    io::write_all(1, b" count ");
-    io::print_decimal(1, w.used);
+    print_part(b" row ", m.row as u64);
+    print_part(b" steps ", w.steps as u64);
+    print_part(b" count ", w.used);
     io::write_all(1, b":");
 }
 
@@ -150,8 +118,7 @@ fn write_room(t: &[u32], room: usize)
     requires { ⌜ room ≤ 31 ⌝ }
 {
     let mut list = [7u32; MOST];
-    io::write_all(1, b"room ");
-    io::print_decimal(1, room as u64);
+    print_part(b"room ", room as u64);
     write_in(t, &mut list[..room]);
 }
 

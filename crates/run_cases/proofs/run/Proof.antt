@@ -1,4 +1,4 @@
--- The part of the bytes that is lent is as long as the case.
+-- The case is in the part of the buffer that is as long as it.
 -- Assumes nothing.
 use lib.ListN.{length-take}
 use native.Mathlib.Omega.{arith}
@@ -6,51 +6,39 @@ use borrow.Author.Needs.{needs}
 use Rattle.run_cases.proofs.run.Statement.{statement}
 use Rattle.run_cases.proofs.run.Tie as tie
 
-slice-aggregate-read-full : tie.Need-slice-aggregate-read-full
-slice-aggregate-read-full c = search needs
+next-case-requires : tie.Need-next-case-requires
+next-case-requires c κs = search needs
 
-read-full-requires : tie.Need-read-full-requires
-read-full-requires c κs = search needs
+same-length : tie.Need-same-length
+same-length c = search needs
 
 returns : tie.Need-returns
 returns c = search needs
 
-slice-aggregate-word : tie.Need-slice-aggregate-word
-slice-aggregate-word c = search needs
+slice-reshare-prefix-report : tie.Need-slice-reshare-prefix-report
+slice-reshare-prefix-report c = search needs
 
-word-requires : tie.Need-word-requires
-word-requires c κs = search needs
+slice-aggregate-report : tie.Need-slice-aggregate-report
+slice-aggregate-report c = simp length-take (omega arith)
 
-cast-n : tie.Need-cast-n
-cast-n c = search needs
+report-requires : tie.Need-report-requires
+report-requires c κs = search needs
+
+same-length-2 : tie.Need-same-length-2
+same-length-2 c = search needs
 
 returns-2 : tie.Need-returns-2
 returns-2 c = search needs
-
-array-borrow-prefix-s : tie.Need-array-borrow-prefix-s
-array-borrow-prefix-s c = search needs
-
-slice-aggregate-read-case : tie.Need-slice-aggregate-read-case
-slice-aggregate-read-case c = simp length-take (omega arith)
-
-read-case-requires : tie.Need-read-case-requires
-read-case-requires c κs = search needs
-
-returns-3 : tie.Need-returns-3
-returns-3 c = search needs
 
 pub run-spec : {M : Type 1} → statement M
 run-spec =
     tie.close
     (tie.spec
-    slice-aggregate-read-full
-    read-full-requires
+    next-case-requires
+    same-length
     returns
-    slice-aggregate-word
-    word-requires
-    cast-n
-    returns-2
-    array-borrow-prefix-s
-    slice-aggregate-read-case
-    read-case-requires
-    returns-3)
+    slice-reshare-prefix-report
+    slice-aggregate-report
+    report-requires
+    same-length-2
+    returns-2)

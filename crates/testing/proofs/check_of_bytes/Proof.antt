@@ -1,40 +1,34 @@
--- The measure is what is left of the bytes.
+-- The check number of the bytes that are left, from the one so far, is that of all; the measure is what is left.
 -- Assumes nothing.
 use borrow.Author.Needs.{needs}
 use Prim.Native.Nat.{_-_}
-use lib.ListN.{length}
+use native.Mathlib.Omega.{arith}
+use mathlib.Core.Path.{_≡_, refl, ap, _∙_}
+use lib.ListN.{length, drop}
+use Rattle.testing.specs.Checks.{mixedWith, checkFrom, checkNumber}
+use Rattle.testing.proofs.TestLaws.{check-more, check-all}
 use Rattle.testing.proofs.check_of_bytes.Statement.{statement}
 use Rattle.testing.proofs.check_of_bytes.Tie as tie
 
 abbrev Inv-loop : tie.InvT-loop
-Inv-loop s h₀ i₀ h i = Unit {0}
+Inv-loop s h₀ i₀ h i = checkFrom h (drop i s) ≡ checkNumber s
 
 abbrev μ-loop : tie.MeasureT-loop
 μ-loop s h₀ i₀ h i = length s - i
 
 loop-holds : tie.Need-loop-holds Inv-loop μ-loop
-loop-holds c = search needs
-
-shared-slice-read-wide : tie.Need-shared-slice-read-wide Inv-loop μ-loop
-shared-slice-read-wide c = search needs
-
-wide-requires : tie.Need-wide-requires Inv-loop μ-loop
-wide-requires c κs = search needs
-
-mixed-requires : tie.Need-mixed-requires Inv-loop μ-loop
-mixed-requires c κs = search needs
-
-add-i : tie.Need-add-i Inv-loop μ-loop
-add-i c = search needs
-
-loop-less : tie.Need-loop-less Inv-loop μ-loop
-loop-less c = search needs
+loop-holds c = refl
 
 loop-again : tie.Need-loop-again Inv-loop μ-loop
-loop-again c = search needs
+loop-again c =
+    let h = c .before .before .before .before .loop in
+    let ws = c .before .before .before .before .before .before .args .s .now in
+    check-more ws (h .i) (h .h) _ _ (omega arith) (h .inv) (c .mixed .ensures ∙ ap (mixedWith (h .h)) (c .before .wide .ensures))
 
 returns : tie.Need-returns Inv-loop μ-loop
-returns c = search needs
+returns c =
+    let h = c .before .loop in
+    check-all (c .before .before .before .args .s .now) (h .i) (h .h) _ (omega arith) (h .inv)
 
 pub check-of-bytes-spec : {M : Type 1} → statement M
 check-of-bytes-spec =
@@ -43,10 +37,10 @@ check-of-bytes-spec =
     Inv-loop
     μ-loop
     loop-holds
-    shared-slice-read-wide
-    wide-requires
-    mixed-requires
-    add-i
-    loop-less
+    (λ c. search needs)
+    (λ c κs. search needs)
+    (λ c κs. search needs)
+    (λ c. search needs)
+    (λ c. search needs)
     loop-again
     returns)
