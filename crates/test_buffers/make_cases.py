@@ -6,16 +6,16 @@ of a reduced one, 5 check of a pair), the size lent (words for 0 and 2, bytes fo
 of the input in bytes. The input is the bytes of a file for 0, the words of a table for the others. Printed is the answer and, for 0 to 2,
 the check number of the buffer at exit.
 
-The answers are given here, by hand, from docs/RULES.md; the functions below, with the rules of checked_files/rules.py and the reduction of
-run_cases, must come to the same ones.
+The answers are given here, by hand, from docs/RULES.md; the functions below, with the rules of test_checked_files/rules.py and the
+reduction of test_run_cases, must come to the same ones.
 """
 import pathlib
 import struct
 import sys
 
 HERE = pathlib.Path(__file__).parent
-sys.path.insert(0, str(HERE.parent / "checked_files"))
-sys.path.insert(0, str(HERE.parent / "run_cases"))
+sys.path.insert(0, str(HERE.parent / "test_checked_files"))
+sys.path.insert(0, str(HERE.parent / "test_run_cases"))
 import rules  # noqa: E402
 from make_cases import Table  # noqa: E402
 
