@@ -1,4 +1,4 @@
-//! Does in plain Rust what checked_files does for each case of standard input, and prints the same lines.
+//! Does in plain Rust what test_checked_files does for each case of standard input, and prints the same lines.
 use std::io::{self, BufWriter, Read, Write};
 
 const ROOM: usize = 22_541;

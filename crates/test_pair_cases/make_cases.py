@@ -1,0 +1,114 @@
+#!/usr/bin/env python3
+"""Writes stdin and stdout of this program: the vectors for `pairrun`, whose layout is the program's own, and what must be printed of them.
+
+Run as: make_cases.py VECTORS, the folder of vectors, cases.bin, cases.expected and index.txt, which were handed out with the demands.
+"""
+import pathlib
+import struct
+import sys
+
+HERE = pathlib.Path(__file__).parent
+sys.path.insert(0, str(HERE.parent / "test_checked_files"))
+sys.path.insert(0, str(HERE.parent / "test_run_cases"))
+from make_cases import CELLS, MP, MU, P, PLAIN, REDUCED, SKIP, Machine, Table, U, constant, variable, write_choices  # noqa: E402
+from rules import refusal_of_input, write  # noqa: E402
+
+ROOM = 8192
+
+
+# `pairrun`, by the rules of files and tables (test_checked_files/rules.py) and the interpreter of `test_run_cases`: it must print of every
+# vector what the vector says, and of the cases after them what is given with them
+
+
+def pairrun(data, most=None):
+    """The lines that `pairrun` prints of an input. Under a most the runs take no more steps than it."""
+    refusal, lines = refusal_of_input(data)
+    if refusal is not None:
+        return ["refused %d line %d" % refusal]
+    c1, c2, limit = struct.unpack_from("<3I", data)
+    return printed_runs(lines, (c1, c2), limit if most is None else min(limit, most))
+
+
+def printed_runs(lines, pair, limit):
+    plain = Machine(Table(lines), [0] * CELLS[PLAIN])
+    end, steps, state = plain.run(plain.fresh(), limit)
+    out = ["plain %s row %d steps %d" % (end, state.row, steps)]
+    _, _, _, count, numbers = write_choices(lines, pair, limit, ROOM)
+    reduced = Machine(Table(lines).reduced(), [0] * CELLS[REDUCED], pair, numbers[:count])
+    end, steps, state = reduced.run(reduced.fresh(), limit)
+    out.append("pair %s row %d steps %d choices %d" % (end, state.row, steps, reduced.used))
+    return out
+
+
+def full_lists():
+    """Inputs whose list has 8,191 or 8,192 numbers before the last rows, and what they end with. Node k takes 2^k choices, each 0."""
+    nodes = [variable(0)] + [(20, k, k, 0) for k in range(11)] + [constant(1), (21, 1, 12, 0)]
+    fails = 13
+
+    def gets(*found):
+        return [(33, 1, n, 0) for n in found]
+
+    whole, less = gets(11, 11, 11, 11), gets(11, 11, 11, *range(11))
+    for limit, rows, ended in (
+        (100, whole, "done row 4 steps 4 choices 8192"),
+        (100, whole + [SKIP], "done row 5 steps 5 choices 8192"),
+        (4, whole + [SKIP], "steps row 4 steps 4 choices 8192"),
+        (4, whole + gets(0), "steps row 4 steps 4 choices 8192"),
+        (100, whole + gets(0), "nochoice row 4 steps 4 choices 8192"),
+        (100, less + gets(0, 0), "nochoice row 15 steps 15 choices 8192"),
+        (100, less + gets(1), "nochoice row 14 steps 14 choices 8191"),
+        (100, less + gets(fails), "nochoice row 14 steps 14 choices 8191"),
+        (100, less[1:] + gets(fails), "fail row 13 steps 14 choices 6145"),
+    ):
+        plain = "done row %d steps %d" % (len(rows), len(rows))
+        if rows[-1] == (33, 1, fails, 0):
+            plain = "fail row %d steps %d" % (len(rows) - 1, len(rows))
+        if limit == 4:
+            plain = "steps row 4 steps 4"
+        yield struct.pack("<3I", 1, 3, limit) + write([MU, U, *nodes, *rows]), ["plain " + plain, "pair " + ended]
+
+
+def cells_of_each():
+    """Inputs whose arrays fit into the cells of both machines, of one, of none: each machine has its own."""
+    for declaration, length, plain, pair in (
+        (P, 4096, "done row 2 steps 2", "done row 2 steps 2 choices 0"),
+        (P, 4097, "room row 0 steps 1", "done row 2 steps 2 choices 0"),
+        (P, 4112, "room row 0 steps 1", "done row 2 steps 2 choices 0"),
+        (P, 4113, "room row 0 steps 1", "room row 0 steps 1 choices 0"),
+        (MP, 4096, "done row 2 steps 2", "done row 2 steps 2 choices 0"),
+        (MP, 4097, "room row 0 steps 1", "done row 2 steps 2 choices 0"),
+    ):
+        yield struct.pack("<3I", 1, 3, 9) + write([declaration, constant(length), (37, 0, 0, 0), SKIP]), ["plain " + plain, "pair " + pair]
+
+
+def main():
+    vectors = pathlib.Path(sys.argv[1])
+    data = (vectors / "cases.bin").read_bytes()
+    expected = (vectors / "cases.expected").read_text()
+    lines = (vectors / "index.txt").read_text().splitlines()
+
+    # the three files tell of the same cases, and the rules print the same
+    at = 0
+    for line in lines:
+        _, length, output = line.split(" ", 2)
+        (n,) = struct.unpack_from("<I", data, at)
+        assert n == int(length)
+        assert " | ".join(pairrun(data[at + 4 : at + 4 + n])) == output, line
+        at += 4 + n
+    assert at == len(data)
+    assert expected == "".join(line.split(" ", 2)[2].replace(" | ", "\n") + "\n" for line in lines)
+
+    more = 0
+    for given, ended in [*full_lists(), *cells_of_each()]:
+        out = pairrun(given)
+        assert out == ended, (out, ended)
+        data += struct.pack("<I", len(given)) + given
+        expected += "".join(line + "\n" for line in out)
+        more += 1
+    (HERE / "stdin").write_bytes(data)
+    (HERE / "stdout").write_text(expected)
+    print(len(lines) + more, "cases")
+
+
+if __name__ == "__main__":
+    main()

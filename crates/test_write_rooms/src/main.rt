@@ -1,0 +1,131 @@
+// Writes the choices of T (rule 8.9) for the pair 1, 3 into lists of every length from 0 to 31, lent full of sevens, and prints for each
+// the end, the row, the steps, how many numbers were written, and the list at exit.
+use runs::Answered;
+use table::Verdict;
+use testing::print_part;
+ghost use Prim.Native.Nat.{_≤_};
+
+const MOST: usize = 31;
+
+const CELLS: usize = 4096;
+
+// The table T (rule 8.9).
+const T: [u32; 64] = [
+    2,
+    1,
+    0,
+    0,
+    3,
+    1,
+    0,
+    0,
+    17,
+    5,
+    0,
+    0,
+    17,
+    0,
+    0,
+    0,
+    17,
+    4,
+    0,
+    0,
+    16,
+    1,
+    0,
+    0,
+    16,
+    0,
+    0,
+    0,
+    20,
+    3,
+    4,
+    0,
+    17,
+    7,
+    0,
+    0,
+    19,
+    5,
+    0,
+    0,
+    24,
+    7,
+    6,
+    0,
+    37,
+    1,
+    0,
+    0,
+    38,
+    0,
+    1,
+    2,
+    34,
+    5,
+    6,
+    0,
+    35,
+    8,
+    0,
+    0,
+    39,
+    0,
+    0,
+    0,
+];
+
+fn print_word(word: u32) {
+    print_part(b" ", word as u64);
+}
+
+fn print_list(list: &[u32]) {
+    let mut i: usize = 0;
+    while i < list.len() {
+        print_word(list[i]);
+        i += 1;
+    }
+    io::write_all(1, b"\n");
+}
+
+fn print_answer(a: Answered) {
+    let v = a.verdict;
+    io::write_all(1, b" ");
+    let Verdict::Passes = v else {
+        testing::print_verdict(v);
+        return;
+    };
+    let w = a.ran;
+    let end = w.end;
+    testing::print_end(end);
+    let m = w.machine;
+    print_part(b" row ", m.row as u64);
+    print_part(b" steps ", w.steps as u64);
+    print_part(b" count ", w.used);
+    io::write_all(1, b":");
+}
+
+fn write_in(t: &[u32], list: &mut [u32]) {
+    let mut cells = [0u32; CELLS];
+    let a = choices::write_choices(t, 1, 3, &mut cells, list, 100);
+    print_answer(a);
+    print_list(list);
+}
+
+fn write_room(t: &[u32], room: usize)
+    requires { ⌜ room ≤ 31 ⌝ }
+{
+    let mut list = [7u32; MOST];
+    print_part(b"room ", room as u64);
+    write_in(t, &mut list[..room]);
+}
+
+fn main() {
+    let mut room: usize = 0;
+    while room <= MOST {
+        write_room(&T, room);
+        room += 1;
+    }
+}
