@@ -1,7 +1,9 @@
 // Writes the choices of T (rule 8.9) for the pair 1, 3 into lists of every length from 0 to 31, lent full of sevens, and prints for each
-// the end, the row, the steps, how many numbers were written, and the list at exit.
+// the end, the row, the steps, how many numbers were written, parts of the record, the check number of the cells, which were sevens too, and
+// the list at exit.
 use runs::Answered;
 use table::Verdict;
+use testing::check_of;
 use testing::print_part;
 ghost use Prim.Native.Nat.{_≤_};
 
@@ -90,7 +92,7 @@ fn print_list(list: &[u32]) {
     io::write_all(1, b"\n");
 }
 
-fn print_answer(a: Answered) {
+fn print_answer(a: Answered, cells: &[u32]) {
     let v = a.verdict;
     io::write_all(1, b" ");
     let Verdict::Passes = v else {
@@ -104,13 +106,17 @@ fn print_answer(a: Answered) {
     print_part(b" row ", m.row as u64);
     print_part(b" steps ", w.steps as u64);
     print_part(b" count ", w.used);
+    print_part(b" open ", m.open as u64);
+    print_part(b" arrays ", m.count as u64);
+    print_part(b" iterator ", m.numbers[0] as u64);
+    print_part(b" cells ", check_of(cells) as u64);
     io::write_all(1, b":");
 }
 
 fn write_in(t: &[u32], list: &mut [u32]) {
-    let mut cells = [0u32; CELLS];
+    let mut cells = [7u32; CELLS];
     let a = choices::write_choices(t, 1, 3, &mut cells, list, 100);
-    print_answer(a);
+    print_answer(a, &cells);
     print_list(list);
 }
 
