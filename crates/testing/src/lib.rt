@@ -83,7 +83,7 @@ pub fn print_part(name: &[u8], n: u64) {
     io::print_decimal(1, n);
 }
 
-// Prints a refusal as rule 8.2 has it, without the end of the line.
+// Prints a refusal (rule 8.2), but not the end of its line.
 pub fn print_refusal(number: u32, place: u64) {
     print_part(b"refused ", number as u64);
     print_part(b" line ", place);
@@ -99,7 +99,7 @@ pub fn print_verdict(v: Verdict) {
     }
 }
 
-// Prints the name of an end (rule 8.4, and one for the choice writer): whether it was written.
+// Prints the name of an end (rule 8.4); the choice writer has one more, `full`. Whether it was written.
 pub fn print_end(e: End) -> bool {
     match e {
         End::Done => io::write_all(1, b"done"),
