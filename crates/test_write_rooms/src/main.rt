@@ -108,7 +108,8 @@ fn print_answer(a: Answered, cells: &[u32]) {
     print_part(b" count ", w.used);
     print_part(b" open ", m.open as u64);
     print_part(b" arrays ", m.count as u64);
-    print_part(b" iterator ", m.numbers[0] as u64);
+    io::write_all(1, b" iterator");
+    print_word(m.numbers[0]);
     print_part(b" cells ", check_of(cells) as u64);
     io::write_all(1, b":");
 }
