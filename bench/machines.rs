@@ -120,12 +120,22 @@ pub fn decode(words: &[u32]) -> Table {
 
 // The machine
 
+// Why a row failed.
+#[derive(Clone, Copy)]
+pub enum Reason {
+    SumTooLarge,
+    BelowZero,
+    WithoutArray,
+    PastLength,
+    CounterTooLarge,
+}
+
 #[derive(Clone, Copy)]
 pub enum End {
     Done,
     Assert,
     Assume,
-    Fail,
+    Fail(Reason),
     Room,
     Steps,
     BadChoice,
@@ -138,7 +148,11 @@ impl End {
             End::Done => "done",
             End::Assert => "assert",
             End::Assume => "assume",
-            End::Fail => "fail",
+            End::Fail(Reason::SumTooLarge) => "fail reason 1",
+            End::Fail(Reason::BelowZero) => "fail reason 2",
+            End::Fail(Reason::WithoutArray) => "fail reason 3",
+            End::Fail(Reason::PastLength) => "fail reason 4",
+            End::Fail(Reason::CounterTooLarge) => "fail reason 5",
             End::Room => "room",
             End::Steps => "steps",
             End::BadChoice => "badchoice",
@@ -219,7 +233,10 @@ impl Machine<'_> {
     }
 
     fn cell(&mut self, p: Pointer) -> Result<u32, End> {
-        let array = self.array(p).filter(|array| p.place < array.length).ok_or(End::Fail)?;
+        let array = self.array(p).ok_or(End::Fail(Reason::WithoutArray))?;
+        if p.place >= array.length {
+            return Err(End::Fail(Reason::PastLength));
+        }
         if !array.reduced {
             Ok(self.cells[array.first + p.place as usize])
         } else if self.pair.tracks(p.place) {
@@ -255,8 +272,8 @@ impl Machine<'_> {
                 let p = self.pointer(p)?;
                 self.cell(p)
             }
-            Node::Add(a, b) => self.uint(a)?.checked_add(self.uint(b)?).ok_or(End::Fail),
-            Node::Subtract(a, b) => self.uint(a)?.checked_sub(self.uint(b)?).ok_or(End::Fail),
+            Node::Add(a, b) => self.uint(a)?.checked_add(self.uint(b)?).ok_or(End::Fail(Reason::SumTooLarge)),
+            Node::Subtract(a, b) => self.uint(a)?.checked_sub(self.uint(b)?).ok_or(End::Fail(Reason::BelowZero)),
             Node::If(a, b, c) => {
                 if self.bool(a)? { self.uint(b) } else { self.uint(c) }
             }
@@ -288,12 +305,12 @@ impl Machine<'_> {
             Node::Variable(v) => Ok(Pointer { base: self.record.bases[v], place: self.record.numbers[v] }),
             Node::Add(a, b) => {
                 let Pointer { base, place } = self.pointer(a)?;
-                let place = place.checked_add(self.uint(b)?).ok_or(End::Fail)?;
+                let place = place.checked_add(self.uint(b)?).ok_or(End::Fail(Reason::SumTooLarge))?;
                 Ok(Pointer { base, place })
             }
             Node::Subtract(a, b) => {
                 let Pointer { base, place } = self.pointer(a)?;
-                let place = place.checked_sub(self.uint(b)?).ok_or(End::Fail)?;
+                let place = place.checked_sub(self.uint(b)?).ok_or(End::Fail(Reason::BelowZero))?;
                 Ok(Pointer { base, place })
             }
             Node::If(a, b, c) => {
@@ -319,10 +336,10 @@ impl Machine<'_> {
     fn write(&mut self, p: usize, v: usize) -> Result<(), End> {
         let p = self.pointer(p)?;
         let v = self.uint(v)?;
-        let array = self.array(p).ok_or(End::Fail)?;
+        let array = self.array(p).ok_or(End::Fail(Reason::WithoutArray))?;
         let place = if array.reduced { self.choice_in(self.pair.class(p.place))? } else { p.place };
         if place >= array.length {
-            return Err(End::Fail);
+            return Err(End::Fail(Reason::PastLength));
         }
         if !array.reduced {
             self.cells[array.first + place as usize] = v;
@@ -361,7 +378,7 @@ impl Machine<'_> {
     fn close(&mut self) -> Result<(), End> {
         let Open { row, start, end } = *self.record.loops.last().expect("an open loop");
         let Row::Loop { iterator, classes, .. } = self.table.rows[row] else { unreachable!() };
-        let start = start.checked_add(1).ok_or(End::Fail)?;
+        let start = start.checked_add(1).ok_or(End::Fail(Reason::CounterTooLarge))?;
         let (start, end) = self.tested(iterator, start, end, classes)?;
         if start <= end {
             *self.record.loops.last_mut().expect("an open loop") = Open { row, start, end };

@@ -58,11 +58,11 @@ def full_lists():
         (100, less + gets(0, 0), "nochoice row 15 steps 15 choices 8192"),
         (100, less + gets(1), "nochoice row 14 steps 14 choices 8191"),
         (100, less + gets(fails), "nochoice row 14 steps 14 choices 8191"),
-        (100, less[1:] + gets(fails), "fail row 13 steps 14 choices 6145"),
+        (100, less[1:] + gets(fails), "fail reason 2 row 13 steps 14 choices 6145"),
     ):
         plain = "done row %d steps %d" % (len(rows), len(rows))
         if rows[-1] == (33, 1, fails, 0):
-            plain = "fail row %d steps %d" % (len(rows) - 1, len(rows))
+            plain = "fail reason 2 row %d steps %d" % (len(rows) - 1, len(rows))
         if limit == 4:
             plain = "steps row 4 steps 4"
         yield struct.pack("<3I", 1, 3, limit) + write([MU, U, *nodes, *rows]), ["plain " + plain, "pair " + ended]
@@ -79,6 +79,21 @@ def cells_of_each():
         (MP, 4097, "room row 0 steps 1", "done row 2 steps 2 choices 0"),
     ):
         yield struct.pack("<3I", 1, 3, 9) + write([declaration, constant(length), (37, 0, 0, 0), SKIP]), ["plain " + plain, "pair " + pair]
+
+
+def why_it_failed():
+    """Inputs that fail, for each reason, and the reason that is printed on both lines."""
+    large = [constant(2**32 - 1), constant(1)]
+    for reason, lines, row, steps in (
+        (1, [U, *large, (20, 0, 1, 0), (33, 0, 2, 0)], 0, 1),
+        (2, [U, *large, (21, 1, 0, 0), (33, 0, 2, 0)], 0, 1),
+        (3, [P, *large, variable(0), (20, 2, 1, 0), (34, 3, 1, 0)], 0, 1),
+        (4, [MP, *large, variable(0), (20, 2, 1, 0), (37, 0, 1, 0), (34, 3, 1, 0)], 1, 2),
+        (5, [U, large[0], (38, 0, 0, 0), (39, 0, 0, 0)], 1, 2),
+    ):
+        ended = "fail reason %d row %d steps %d" % (reason, row, steps)
+        choices = int(lines[0] == MP)
+        yield struct.pack("<3I", 1, 3, 9) + write(lines), ["plain " + ended, "pair %s choices %d" % (ended, choices)]
 
 
 def main():
@@ -99,7 +114,7 @@ def main():
     assert expected == "".join(line.split(" ", 2)[2].replace(" | ", "\n") + "\n" for line in lines)
 
     more = 0
-    for given, ended in [*full_lists(), *cells_of_each()]:
+    for given, ended in [*full_lists(), *cells_of_each(), *why_it_failed()]:
         out = pairrun(given)
         assert out == ended, (out, ended)
         data += struct.pack("<I", len(given)) + given

@@ -88,11 +88,11 @@ for kind in (38, 42):
 STORED = "            pointer = self.value(state, a)\n            self.write(state, pointer, self.value(state, b))"
 VALUE_FIRST = "            v = self.value(state, b)\n            self.write(state, self.value(state, a), v)"
 broken("2.8", "40 works out its value before its pointer", (STORED, VALUE_FIRST), kinds={40})
-EARLY = "            pointer = self.value(state, a)\n            if not pointer[0]:\n                raise Ended('fail')\n"
+EARLY = "            pointer = self.value(state, a)\n            if not pointer[0]:\n                raise failed(NO_ARRAY)\n"
 EARLY += "            self.write(state, pointer, self.value(state, b))"
 broken("3.17", "40 tests for an array before it works out its value", (STORED, EARLY), kinds={40})
 EARLY = "            pointer = self.value(state, a)\n            if pointer[0] and pointer[1] >= self.array(state, pointer)[1]:\n"
-EARLY += "                raise Ended('fail')\n            self.write(state, pointer, self.value(state, b))"
+EARLY += "                raise failed(PAST)\n            self.write(state, pointer, self.value(state, b))"
 broken("3.17", "40 tests the place before it works out its value", (STORED, EARLY), kinds={40})
 VALUE = '    def value(self, state, n):\n        """The value of a node."""\n'
 MEMO = "    def value(self, state, n):\n        if n not in self.worked%s:\n            self.worked[n] = self.anew(state, n)\n"
@@ -124,7 +124,8 @@ broken(
     kinds={40},
 )
 
-SUM = "            if not 0 <= number <= BIG:\n"
+SUM = "            if number > BIG:\n                raise failed(SUM)\n"
+DIFFERENCE = "            if number < 0:\n                raise failed(DIFFERENCE)\n"
 for kind, name, wrong in (20, "a sum above 4,294,967,295", "number % 2**32"), (21, "a difference below 0", "number % 2**32"):
     for test, of in ("not isinstance(x, tuple)", "uints"), ("isinstance(x, tuple)", "places"):
         more = "            if kind == %d and %s:\n                number = %s\n" % (kind, test, wrong)
@@ -133,25 +134,25 @@ for test, of in ("not isinstance(x, tuple)", "uints"), ("isinstance(x, tuple)", 
     broken(
         "2.10",
         "a sum of %s that is 4,294,967,295 fails" % of,
-        (SUM, "            if %s and number == BIG or not 0 <= number <= BIG:\n" % test),
+        (SUM, SUM.replace("number > BIG", "%s and number == BIG or number > BIG" % test)),
         kinds={20},
     )
     broken(
         "2.11",
         "a difference of %s that is 0 fails" % of,
-        (SUM, "            if %s and kind == 21 and number == 0 or not 0 <= number <= BIG:\n" % test),
+        (DIFFERENCE, DIFFERENCE.replace("number < 0", "%s and kind == 21 and number == 0 or number < 0" % test)),
         kinds={21},
     )
     more = "            if %s:\n                number = max(number, 0)\n" % test
     broken("2.11", "a difference of %s below 0 is 0" % of, (SUM, more + SUM), kinds={21})
-NO_ARRAY_SUM = "            if isinstance(x, tuple) and x[0] == 0:\n                raise Ended('fail')\n"
+NO_ARRAY_SUM = "            if isinstance(x, tuple) and x[0] == 0:\n                raise failed(NO_ARRAY)\n"
 broken("2.10", "a sum on a pointer with no array fails", (SUM, NO_ARRAY_SUM + SUM), kinds={20, 21})
 broken(
     "2.10",
     "a sum past the end of an array fails",
     (
         SUM,
-        "            if isinstance(x, tuple) and x[0] and number > self.array(state, x)[1]:\n                raise Ended('fail')\n" + SUM,
+        "            if isinstance(x, tuple) and x[0] and number > self.array(state, x)[1]:\n                raise failed(PAST)\n" + SUM,
     ),
 )
 broken(
@@ -161,8 +162,9 @@ broken(
     kinds={21},
 )
 
-READ = "        if array is None or pointer[1] >= array[1]:\n"
-broken("2.14", "a cell with no array reads as 0", (READ, "        if array is None:\n            return 0\n" + READ), kinds={19, 28})
+READ = "        if pointer[1] >= array[1]:\n"
+NONE_TO_READ = "        if array is None:\n            raise failed(NO_ARRAY)\n" + READ
+broken("2.14", "a cell with no array reads as 0", (NONE_TO_READ, NONE_TO_READ.replace("raise failed(NO_ARRAY)", "return 0")), kinds={19, 28})
 broken("2.14", "19 at the length reads on", (READ, READ.replace("array[1]:", "array[1] + (not array[2]):")), kinds={19, 28})
 broken("3.15", "28 at the true length reads on", (READ, READ.replace("array[1]:", "array[1] + array[2]:")), kinds={28}, stops=True)
 broken("2.14", "19 fails at the last place", (READ, READ.replace("array[1]:", "array[1] - (not array[2]):")), kinds={19, 28})
@@ -170,12 +172,12 @@ broken("3.15", "28 fails at the last place", (READ, READ.replace("array[1]:", "a
 broken(
     "2.14",
     "a place past the length reads as 0",
-    (READ, "        if array and pointer[1] >= array[1]:\n            return 0\n" + READ),
+    (READ, "        if pointer[1] >= array[1]:\n            return 0\n" + READ),
     kinds={19, 28},
 )
-WRITTEN = "        if array is None:\n            raise Ended(\"fail\")\n        first, length, reduced = array\n"
-broken("2.19", "a write with no array is dropped", (WRITTEN, WRITTEN.replace('raise Ended("fail")', "return")), kinds={34, 40})
-PAST = "        if place >= length:\n            raise Ended(\"fail\")\n"
+WRITTEN = "        if array is None:\n            raise failed(NO_ARRAY)\n        first, length, reduced = array\n"
+broken("2.19", "a write with no array is dropped", (WRITTEN, WRITTEN.replace("raise failed(NO_ARRAY)", "return")), kinds={34, 40})
+PAST = "        if place >= length:\n            raise failed(PAST)\n"
 broken(
     "2.19",
     "a write at the length is let through, array not reduced",
@@ -195,11 +197,11 @@ broken(
     kinds={34, 40},
 )
 broken("3.18", "a write at the last place fails, array reduced", (PAST, PAST.replace("length:", "length - reduced:")), kinds={40})
-broken("2.19", "a write past the length is dropped", (PAST, PAST.replace('raise Ended("fail")', "return")), kinds={34, 40})
+broken("2.19", "a write past the length is dropped", (PAST, PAST.replace("raise failed(PAST)", "return")), kinds={34, 40})
 ALL_THE_SAME = (
     "        if place >= length:\n"
     "            self.cells[min(first + place, len(self.cells) - 1)] = v\n"
-    "            raise Ended('fail')\n"
+    "            raise failed(PAST)\n"
 )
 broken(
     "2.30",
@@ -220,19 +222,19 @@ broken("2.15", "26 is true wherever there is an array", (VALID, "            ret
 broken(
     "2.15",
     "26 fails with no array",
-    (VALID, "            if not x[0]:\n                raise Ended('fail')\n" + VALID),
+    (VALID, "            if not x[0]:\n                raise failed(NO_ARRAY)\n" + VALID),
     kinds={26, 29},
 )
 broken(
     "2.15",
     "26 fails past the length",
-    (VALID, "            if x[0] and x[1] >= self.array(state, x)[1]:\n                raise Ended('fail')\n" + VALID),
+    (VALID, "            if x[0] and x[1] >= self.array(state, x)[1]:\n                raise failed(PAST)\n" + VALID),
     kinds={26, 29},
 )
 broken(
     "2.2",
     "an array of length 0 fails at 26",
-    (VALID, "            if x[0] and self.array(state, x)[1] == 0:\n                raise Ended('fail')\n" + VALID),
+    (VALID, "            if x[0] and self.array(state, x)[1] == 0:\n                raise failed(PAST)\n" + VALID),
     kinds={26, 29},
 )
 broken(
@@ -261,13 +263,51 @@ broken("1.1", "22 and 23 compare with a sign", (COMPARE, SIGNED + COMPARE), kind
 broken("2.9", "18 is the other bool", ("            return a == 1\n", "            return a == 0\n"), kinds={18})
 broken("1.1", "17 drops the highest bit", ("            return a\n", "            return a % 2**31\n"), kinds={17})
 
+# How a table runs: why a row failed
+
+for kind, name, text, right in (20, "sum", SUM, "SUM"), (21, "difference", DIFFERENCE, "DIFFERENCE"):
+    for test, of in ("not isinstance(x, tuple)", "uints"), ("isinstance(x, tuple)", "places"):
+        for wrong in "SUM", "DIFFERENCE", "NO_ARRAY", "PAST", "COUNTER":
+            if wrong != right:
+                other = text.replace("failed(%s)" % right, "failed(%s if %s else %s)" % (wrong, test, right))
+                broken("2.36", "a %s of %s has the reason %s" % (name, of, wrong), (text, other), kinds={kind})
+    other = text.replace("failed(%s)" % right, "failed(%s if isinstance(x, tuple) and x[0] == 0 else %s)" % ("NO_ARRAY", right))
+    broken("2.36", "a %s of the place of a pointer with no array has the reason NO_ARRAY" % name, (text, other), kinds={kind})
+ONE_MORE = SUM.replace("failed(SUM)", "failed(COUNTER if y == 1 else SUM)")
+broken("2.36", "a sum with 1 has the reason COUNTER", (SUM, ONE_MORE), kinds={20})
+READ_PAST = READ + "            raise failed(PAST)\n"
+for what, old, right in ("a cell read with no array", NONE_TO_READ, "NO_ARRAY"), ("a cell read past the length", READ_PAST, "PAST"):
+    for wrong in "SUM", "DIFFERENCE", "NO_ARRAY", "PAST", "COUNTER":
+        if wrong != right:
+            broken("2.36", "%s has the reason %s" % (what, wrong), (old, old.replace("failed(%s)" % right, "failed(%s)" % wrong)), kinds={19, 28})
+for what, old, right in ("a write with no array", WRITTEN, "NO_ARRAY"), ("a write past the length", PAST, "PAST"):
+    for wrong in "SUM", "DIFFERENCE", "NO_ARRAY", "PAST", "COUNTER":
+        if wrong != right:
+            broken("2.36", "%s has the reason %s" % (what, wrong), (old, old.replace("failed(%s)" % right, "failed(%s)" % wrong)), kinds={34, 40})
+BY_PLACE = "failed(PAST if pointer[1] else NO_ARRAY)"
+broken("2.36", "a read with no array goes by its place", (NONE_TO_READ, NONE_TO_READ.replace("failed(NO_ARRAY)", BY_PLACE)), kinds={19, 28})
+broken("2.36", "a write with no array goes by its place", (WRITTEN, WRITTEN.replace("failed(NO_ARRAY)", BY_PLACE)), kinds={34, 40})
+BY_LENGTH = "failed(PAST if array[1] else NO_ARRAY)"
+broken("2.36", "an array of length 0 is none to read", (READ_PAST, READ_PAST.replace("failed(PAST)", BY_LENGTH)), kinds={19, 28})
+broken("2.36", "an array of length 0 is none to write", (PAST, PAST.replace("failed(PAST)", BY_LENGTH)), kinds={34, 40})
+broken("2.36", "28 past the length of a reduced array has the reason NO_ARRAY", (READ_PAST, READ_PAST.replace("PAST", "NO_ARRAY if array[2] else PAST")), kinds={28})
+broken("2.36", "40 past the length of a reduced array has the reason NO_ARRAY", (PAST, PAST.replace("PAST", "NO_ARRAY if reduced else PAST")), kinds={40})
+STORED_EARLY = "            pointer = self.value(state, a)\n            if kind == 34 and %s:\n                raise failed(%s)\n"
+STORED_EARLY += "            self.write(state, pointer, self.value(state, b))"
+broken("2.38", "34 tests for an array before it works out its value", (STORED, STORED_EARLY % ("not pointer[0]", "NO_ARRAY")), kinds={34})
+TEST = "pointer[0] and pointer[1] >= self.array(state, pointer)[1]"
+broken("2.38", "34 tests the place before it works out its value", (STORED, STORED_EARLY % (TEST, "PAST")), kinds={34})
+VALUE_OF_34 = "            v = self.value(state, b) if kind == 34 else None\n            pointer = self.value(state, a)\n"
+VALUE_OF_34 += "            self.write(state, pointer, v if kind == 34 else self.value(state, b))"
+broken("2.38", "34 works out its value before its pointer", (STORED, VALUE_OF_34), kinds={34})
+
 # How a table runs: steps, rows and ends
 
 ENDED = "                return e.args[0], steps + 1, state"
-broken("2.29", "a failure reports done", (ENDED, ENDED.replace("e.args[0],", "'done' if e.args[0] == 'fail' else e.args[0],")))
+broken("2.29", "a failure reports done", (ENDED, ENDED.replace("e.args[0],", "'done' if e.args[0].startswith('fail') else e.args[0],")))
 GOES_ON = "                    self.cells[:] = cells\n"
 SKIPPED = (
-    "                if e.args[0] == 'fail':\n"
+    "                if e.args[0].startswith('fail'):\n"
     "                    state.row, steps = state.row + 1, steps + 1\n"
     "                    continue\n"
 )
@@ -299,7 +339,7 @@ PAST_END = (
 broken("2.16", "a loop not entered counts two steps", (COUNTED, PAST_END), kinds={38, 42})
 ASSIGN = "            state.variables[a] = self.value(state, b)\n"
 broken("2.26", "39 is a skip", ("        elif kind == 39:\n", "        elif kind == 0:\n"), kinds={39})
-broken("2.17", "32 ends the run by fail", (ASSIGN, ASSIGN + "        elif kind == 32:\n            raise Ended('fail')\n"), kinds={32})
+broken("2.17", "32 ends the run by fail", (ASSIGN, ASSIGN + "        elif kind == 32:\n            raise failed(SUM)\n"), kinds={32})
 broken("2.18", "33 is a skip", (ASSIGN, "            self.value(state, b)\n"), kinds={33})
 PLACE = "            if isinstance(state.variables[a], tuple):\n                state.variables[a] = %s\n"
 broken("2.18", "33 to a pointer puts it at place 0", (ASSIGN, ASSIGN + PLACE % "(state.variables[a][0], 0)"), kinds={33})
@@ -310,7 +350,7 @@ broken(
     kinds={33},
 )
 TOLD = '                raise Ended("assert" if kind == 35 else "assume")'
-for old, new in ("assume", "assert"), ("assert", "assume"), ("assert", "fail"), ("assume", "fail"), ("assume", "done"):
+for old, new in ("assume", "assert"), ("assert", "assume"), ("assert", "fail reason 1"), ("assume", "fail reason 1"), ("assume", "done"):
     broken("2.20", "%s false ends as %s" % (old, new), (TOLD, TOLD.replace('"%s"' % old, '"%s"' % new)), kinds={35, 36})
 TESTED = "            if not self.value(state, a):\n"
 broken("2.20", "35 is the other way round", (TESTED, "            if self.value(state, a) == (kind == 35):\n"), kinds={35})
@@ -350,7 +390,7 @@ broken(
     kinds={41},
 )
 broken("2.22", "an array of no cells does not fit into full cells", (ROOM, ROOM.replace(":\n", " or first == len(self.cells):\n")))
-broken("2.22", "want of cells ends as fail", ('            raise Ended("room")\n', '            raise Ended("fail")\n'))
+broken("2.22", "want of cells ends as fail", ('            raise Ended("room")\n', "            raise failed(PAST)\n"))
 KEPT = (GOES_ON, "                    pass\n")
 FULL_CELLS = '            self.cells[first:] = [0] * (len(self.cells) - first)\n            raise Ended("room")\n'
 broken(
@@ -433,11 +473,11 @@ broken(
 )
 POP = "            row, start, end = state.loops.pop()\n"
 broken("2.26", "39 closes the outermost loop", (POP, POP.replace("pop()", "pop(0)")), kinds={39}, stops=True)
-LARGEST = "            if start == BIG:\n                raise Ended(\"fail\")\n"
+LARGEST = "            if start == BIG:\n                raise failed(COUNTER)\n"
 broken(
     "2.26",
     "start + 1 too large leaves the loop",
-    (LARGEST, LARGEST.replace('raise Ended("fail")', "return")),
+    (LARGEST, LARGEST.replace("raise failed(COUNTER)", "return")),
     kinds={39},
 )
 broken("2.26", "start + 1 wraps to 0", (LARGEST, "            start = -1 if start == BIG else start\n"), kinds={39})
@@ -445,9 +485,13 @@ broken("2.26", "39 fails a number too early", (LARGEST, LARGEST.replace("== BIG"
 CHOICES = (
     '            if start == BIG:\n                if self.table.rows[row][0] == 42:\n'
     '                    self.in_class(start)\n                    self.in_class(end)\n'
-    '                raise Ended("fail")\n'
+    "                raise failed(COUNTER)\n"
 )
 broken("3.21", "39 takes its choices before start + 1 fails", (LARGEST, CHOICES), kinds={42})
+for wrong in "SUM", "DIFFERENCE", "NO_ARRAY", "PAST":
+    for kind in 38, 42:
+        other = LARGEST.replace("COUNTER", "%s if self.table.rows[row][0] == %d else COUNTER" % (wrong, kind))
+        broken("2.36", "start + 1 of a loop of %d has the reason %s" % (kind, wrong), (LARGEST, other), kinds={kind})
 
 ROWS_LEFT = "        while state.row < len(self.table.rows):\n"
 broken(
@@ -470,16 +514,16 @@ for end in ("assert", "assume", "fail", "room"):
     broken(
         "2.29",
         "the step that ends by %s does not count" % end,
-        (ENDED, ENDED.replace("steps + 1", "steps + (e.args[0] != '%s')" % end)),
+        (ENDED, ENDED.replace("steps + 1", "steps + (not e.args[0].startswith('%s'))" % end)),
     )
-    uncounted = "                self.used = used if e.args[0] == '%s' else self.used\n" % end
+    uncounted = "                self.used = used if e.args[0].startswith('%s') else self.used\n" % end
     broken(
         "2.29",
         "the choices of a step that ends by %s do not count" % end,
         (ENDED, uncounted + ENDED),
         kinds={27, 28, 40, 42},
     )
-    on = "                state.row += e.args[0] == '%s'\n" % end
+    on = "                state.row += e.args[0].startswith('%s')\n" % end
     broken("2.30", "the row moves on at an end by %s" % end, (ENDED, on + ENDED))
 broken(
     "2.30",
@@ -619,13 +663,13 @@ broken("3.15", "28 fails by the cells of the reduced array", (READ, READ.replace
 broken(
     "3.15",
     "28 takes a choice before it fails past the length",
-    (READ, "        if array and array[2] and pointer[1] >= array[1]:\n            self.choice(0)\n" + READ),
+    (READ, "        if array[2] and pointer[1] >= array[1]:\n            self.choice(0)\n" + READ),
     kinds={28},
 )
 broken(
     "3.15",
     "28 takes a choice before it fails with no array",
-    (READ, "        if array is None and self.pair:\n            self.choice(0)\n" + READ),
+    (NONE_TO_READ, "        if array is None and self.pair:\n            self.choice(0)\n" + NONE_TO_READ),
     kinds={28},
 )
 broken("3.15", "28 at a tracked place takes a choice too", (TRACKED, "        self.choice(true)\n" + TRACKED), kinds={28})
@@ -973,7 +1017,7 @@ broken(
 broken(
     "3.12",
     "a choice that is not allowed ends as fail",
-    ('            raise Ended("badchoice")\n', '            raise Ended("fail")\n'),
+    ('            raise Ended("badchoice")\n', "            raise failed(PAST)\n"),
     kinds={27, 40, 42},
 )
 broken(
@@ -1209,6 +1253,11 @@ broken(
     ("[LENT] * (n - len(numbers))", "[0] * (n - len(numbers))"),
     file=ROOMS,
 )
+PLAIN_LINE = '"plain %s row %d steps %d" % (end, state.row, steps)'
+PAIR_LINE = '"pair %s row %d steps %d choices %d" % (end, state.row, steps, reduced.used)'
+for line, text in ("plain", PLAIN_LINE), ("pair", PAIR_LINE):
+    broken("8.17", "the %s line has no reason" % line, (text, text.replace("(end,", "(end.split()[0],")), file=PAIRS)
+    broken("8.17", "the %s line has the reason last" % line, (text, "(%s).replace(end, end.split()[0]) + end[4:]" % text), file=PAIRS)
 broken("8.6", "pairrun lends a room of 8,191", ("ROOM = 8192\n", "ROOM = 8191\n"), file=PAIRS)
 broken("8.6", "pairrun lends a room of 8,193", ("ROOM = 8192\n", "ROOM = 8193\n"), file=PAIRS)
 broken(

@@ -22,6 +22,7 @@ BIG = 2**32 - 1
 PLAIN, REDUCED = 0, 1
 CELLS = {PLAIN: 4096, REDUCED: 4112}
 BOOL, UINT, POINTER = 1, 2, 3
+SUM, DIFFERENCE, NO_ARRAY, PAST, COUNTER = range(1, 6)  # the reasons of a failure
 ROW, OPEN, LOOP_ROW, START, END, NUMBER, BASE, COUNT, FIRST, LENGTH, SHAPE, CELL = range(12)
 
 
@@ -67,7 +68,11 @@ def class_of(v, pair):
 
 
 class Ended(Exception):
-    """A row that ends the run, by the end's name."""
+    """A row that ends the run, by the end's name, and for a failure its reason."""
+
+
+def failed(reason):
+    return Ended("fail reason %d" % reason)
 
 
 class State:
@@ -126,8 +131,10 @@ class Machine:
     def read(self, state, pointer):
         """The number in the cell at a pointer, or the choice that stands for it."""
         array = self.array(state, pointer)
-        if array is None or pointer[1] >= array[1]:
-            raise Ended("fail")
+        if array is None:
+            raise failed(NO_ARRAY)
+        if pointer[1] >= array[1]:
+            raise failed(PAST)
         first, _, reduced = array
         if not reduced:
             return self.cells[first + pointer[1]]
@@ -158,19 +165,21 @@ class Machine:
         y = self.value(state, b)
         if kind in (20, 21):
             number = (x[1] if isinstance(x, tuple) else x) + (y if kind == 20 else -y)
-            if not 0 <= number <= BIG:
-                raise Ended("fail")
+            if number > BIG:
+                raise failed(SUM)
+            if number < 0:
+                raise failed(DIFFERENCE)
             return (x[0], number) if isinstance(x, tuple) else number
         return {22: x < y, 23: x <= y, 24: x == y}[kind]
 
     def write(self, state, pointer, v):
         array = self.array(state, pointer)
         if array is None:
-            raise Ended("fail")
+            raise failed(NO_ARRAY)
         first, length, reduced = array
         place = self.in_class(pointer[1]) if reduced else pointer[1]
         if place >= length:
-            raise Ended("fail")
+            raise failed(PAST)
         if not reduced or self.writer:
             self.cells[first + place] = v
         elif place in self.pair:
@@ -220,7 +229,7 @@ class Machine:
         elif kind == 39:
             row, start, end = state.loops.pop()
             if start == BIG:
-                raise Ended("fail")
+                raise failed(COUNTER)
             self.enter(state, row, start + 1, end)
 
     def run(self, state, limit):
@@ -621,6 +630,112 @@ def choices_taken():
         reduced(lines, 1, 1, 10, choices=choices)
 
 
+def fails_for(reason, lines, row=None, steps=None):
+    """Both machines fail for the reason at a row, the last unless it is given; so does a plain run that is continued there."""
+    row = len(Table(lines).rows) - 1 if row is None else row
+    ended = "fail reason %d row %d steps %d" % (reason, row, row + 1 if steps is None else steps)
+    plain(lines, 100, 100, expect="fail reason %d row %d steps 1" % (reason, row))
+    plain(lines, 100, expect=ended)
+    reduced(lines, 100, choices=written(lines, (1, 3), 100), expect=ended)
+
+
+# Nodes 0 to 3 are numbers, 4 fails for a sum and 5 for a difference
+FAILING = [constant(0), constant(1), constant(5), constant(BIG), (20, 3, 1, 0), (21, 0, 1, 0)]
+ZERO, ONE, FIVE, LARGEST, TOO_LARGE, BELOW = range(6)
+
+
+def reasons_of_sums():
+    """1 and 2: of uints, and of a pointer's place, with an array and with none."""
+    fails_for(SUM, [U, *FAILING, (33, 0, TOO_LARGE, 0)])
+    fails_for(DIFFERENCE, [U, *FAILING, (33, 0, BELOW, 0)])
+    for declaration in P, MP:
+        nodes = [*FAILING, variable(0), (20, 6, LARGEST, 0), (20, 7, ONE, 0), (21, 6, ONE, 0)]
+        for made in [], [(37, 0, FIVE, 0)]:
+            fails_for(SUM, [declaration, *nodes, *made, (33, 0, 8, 0)])
+            fails_for(DIFFERENCE, [declaration, *nodes, *made, (33, 0, 9, 0)])
+            # before the cell is looked for
+            for reason, pointer in (SUM, 8), (DIFFERENCE, 9):
+                fails_for(reason, [declaration, U, *nodes, (19, pointer, 0, 0), *made, (33, 1, 10, 0)])
+                fails_for(reason, [declaration, B, *nodes, (26, pointer, 0, 0), *made, (33, 1, 10, 0)])
+                fails_for(reason, [declaration, *nodes, *made, (34, pointer, ONE, 0)])
+
+
+def reasons_of_cells():
+    """3 with no array, whatever the place; 4 with an array and a place that is not below its length; 26 and 29 have neither."""
+    for declaration in P, MP:
+        for place in 0, 1, 3, 5, 6, BIG:
+            nodes = [*FAILING, constant(place), variable(0), (20, 7, 6, 0), (19, 8, 0, 0), (26, 8, 0, 0)]
+            fails_for(NO_ARRAY, [declaration, U, *nodes, (33, 1, 9, 0)])
+            fails_for(NO_ARRAY, [declaration, *nodes, (34, 8, ONE, 0)])
+            both([declaration, B, *nodes, (33, 1, 10, 0), (36, 10, 0, 0)], 100)
+            plain([declaration, B, *nodes, (33, 1, 10, 0), (36, 10, 0, 0)], 100, expect="assume row 1 steps 2")
+            for length in ZERO, ONE, FIVE:
+                if place >= FAILING[length][1]:
+                    made = [(37, 0, length, 0)]
+                    fails_for(PAST, [declaration, U, *nodes, *made, (33, 1, 9, 0)])
+                    fails_for(PAST, [declaration, *nodes, *made, (34, 8, ONE, 0)])
+                    plain([declaration, *nodes, *made, (36, 10, 0, 0)], 100, expect="assume row 1 steps 2")
+                    reduced([declaration, *nodes, *made, (36, 10, 0, 0)], 100, expect="assume row 1 steps 2")
+    # 40 goes by its choice, which it takes where there is an array
+    lines = [MP, constant(5), variable(0), (20, 1, 0, 0), (37, 0, 0, 0), (34, 2, 0, 0)]
+    reduced(lines, 100, choices=[5], expect="fail reason 4 row 1 steps 2 choices 1")
+    reduced(lines, 100, choices=[4], expect="done row 2 steps 2 choices 1")
+    reduced(lines[:-2] + lines[-1:], 100, choices=[4], expect="fail reason 3 row 0 steps 1 choices 0")
+
+
+def reasons_of_counters():
+    """5 where start + 1 of row 39 is too large, and nowhere else."""
+    for declaration in U, MU:
+        for more in [], [SKIP]:
+            fails_for(COUNTER, [declaration, *FAILING, *loop(0, LARGEST, LARGEST, *more)], steps=2 + len(more))
+        # a sum in the loop has 1, also one that is the same
+        lines = [declaration, U, *FAILING, variable(0), (20, 6, ONE, 0), *loop(0, LARGEST, LARGEST, (33, 1, 7, 0))]
+        fails_for(SUM, lines, row=1)
+    # the inner loop's, then the outer loop's
+    around = [U, U, *FAILING, *loop(0, ZERO, ONE, *loop(1, LARGEST, LARGEST))]
+    fails_for(COUNTER, around, row=2, steps=3)
+    lines = [U, *FAILING, *loop(0, ZERO, FIVE, SKIP)]
+    for start, end, ended in (BIG, BIG, "fail reason 5 row 2 steps 2"), (BIG - 1, BIG, "fail reason 5 row 2 steps 4"):
+        plain(lines, 1, (9, [(START, 0, start), (END, 0, end)]), expect=ended)
+        reduced(lines, 1, (9, [(START, 0, start), (END, 0, end)]), expect=ended)
+
+
+def reasons_in_order():
+    """The first reason met: operands in the order of working out, then the row's or the node's own."""
+    for first, second, reason in (TOO_LARGE, BELOW, SUM), (BELOW, TOO_LARGE, DIFFERENCE):
+        for kind in (20, 21):
+            fails_for(reason, [U, *FAILING, (kind, first, second, 0), (33, 0, 6, 0)])
+            fails_for(reason, [U, *FAILING, (kind, LARGEST, first, 0), (33, 0, 6, 0)])
+            fails_for(reason, [P, *FAILING, variable(0), (kind, 6, first, 0), (33, 0, 7, 0)])
+        for kind in (22, 23, 24):
+            fails_for(reason, [B, *FAILING, (kind, first, second, 0), (33, 0, 6, 0)])
+            fails_for(reason, [B, *FAILING, (kind, ONE, first, 0), (33, 0, 6, 0)])
+            fails_for(reason, [U, *FAILING, (kind, first, ONE, 0), (25, 6, second, second), (33, 0, 7, 0)])
+            for row in 35, 36:
+                fails_for(reason, [*FAILING, (kind, first, second, 0), (row, 6, 0, 0)])
+        for truth in 0, 1:
+            branch = (first, second) if truth else (second, first)
+            fails_for(reason, [U, *FAILING, (18, truth, 0, 0), (25, 6, *branch), (33, 0, 7, 0)])
+        fails_for(reason, [P, *FAILING, (37, 0, first, 0)])
+        for declaration in U, MU:
+            fails_for(reason, [declaration, *FAILING, *loop(0, first, second)], row=0)
+            fails_for(reason, [declaration, *FAILING, *loop(0, ONE, first)], row=0)
+        # a write: its pointer, its value, then the array and the place
+        for declaration in P, MP:
+            for made in [], [(37, 0, ONE, 0)]:
+                nodes = [*FAILING, variable(0), (20, 6, FIVE, 0), (20, 6, first, 0), (19, 6, 0, 0)]
+                fails_for(reason, [declaration, *nodes, *made, (34, 6, first, 0)])
+                fails_for(reason, [declaration, *nodes, *made, (34, 7, first, 0)])
+                fails_for(reason, [declaration, *nodes, *made, (34, 8, second, 0)])
+                fails_for(reason, [declaration, *nodes, *made, (34, 8, 9, 0)])
+    # a value that is a cell: its reason is met before the write's own
+    nodes = [*FAILING, variable(0), variable(1), (20, 7, FIVE, 0), (19, 6, 0, 0), (19, 8, 0, 0), (20, 6, FIVE, 0)]
+    for first, second in (P, P), (P, MP), (MP, P), (MP, MP):
+        fails_for(NO_ARRAY, [first, second, *nodes, (37, 1, ONE, 0), (34, 8, 9, 0)])
+        fails_for(PAST, [first, second, *nodes, (37, 1, ONE, 0), (34, 6, 10, 0)])
+        fails_for(PAST, [first, second, *nodes, (37, 1, ONE, 0), (34, 11, 10, 0)])
+
+
 def orders():
     """Two operands take a choice each, the marked uint one of its class and the cell any: the left operand takes the first."""
     nodes = [constant(8), variable(0), variable(1), (19, 2, 0, 0), (20, 2, 1, 0)]
@@ -980,7 +1095,8 @@ def shuffled(tables):
         out = reduced(lines, limit, 10, pair=pair, choices=choices)[0]
         end = whole.split()[0]
         if end != "room":
-            assert whole.split()[:5] == out.split()[:5] and count(out, "choices") == len(choices), (lines, whole, out)
+            said = 7 if end == "fail" else 5
+            assert whole.split()[:said] == out.split()[:said] and count(out, "choices") == len(choices), (lines, whole, out)
         tally[end] = tally.get(end, 0) + 1
         reduced(lines, *parts, limit, pair=pair, choices=choices)
         for _ in range(3):
@@ -1003,6 +1119,10 @@ def main():
     kinds_of_arrays()
     dropped_writes()
     choices_taken()
+    reasons_of_sums()
+    reasons_of_cells()
+    reasons_of_counters()
+    reasons_in_order()
     orders()
     records()
     refusals()

@@ -16,7 +16,7 @@ use Rattle.model.specs.Work.{Out, Work, next, give, wrong, choose}
 use Rattle.model.specs.Work.Out.{gives, fails, badChoice, noChoice, stuck}
 use Rattle.model.specs.State.{Value, Array, Loop, State, formOf, mostArrays}
 use Rattle.model.specs.State.Value.{Uint, Class, Pointer}
-use Rattle.model.specs.Eval.{Ptr, arrayOf, variableOf, value, keeps, indexOf, sizeOf, cellsLaid, add}
+use Rattle.model.specs.Eval.{Ptr, arrayOf, variableOf, value, keeps, indexOf, sizeOf, cellsLaid, nextStart}
 use Rattle.model.specs.Step.{End, Move, past, node, setVar, withVar, withLoops, enter, put, write, reducedWrite, laidNext, addArray, newArray, loopAt}
 use Rattle.model.specs.Step.{repeatLoop, rowRule, stepAt, step, pastEnd}
 use Rattle.model.specs.Step.End.{assertFalse, assumeFalse, wantOfCells}
@@ -41,14 +41,14 @@ arraysAfter noRow n = n
 abbrev Keeps : ℕ → Out Move → Type 0
 Keeps n (gives (to s) cs) = length (s .arrays) ≡ n
 Keeps n (gives (stop e) cs) = Unit {0}
-Keeps n (fails cs) = Unit {0}
+Keeps n (fails why cs) = Unit {0}
 Keeps n badChoice = Unit {0}
 Keeps n noChoice = Unit {0}
 Keeps n stuck = Unit {0}
 
 keep-next : (n : ℕ) {A : Type 0} (o : Out A) (k : A → Work Move) → ((a : A) (cs : List ℕ) → Keeps n (k a cs)) → Keeps n (next o k)
 keep-next n (gives a cs) k h = h a cs
-keep-next n (fails cs) k h = tt
+keep-next n (fails why cs) k h = tt
 keep-next n badChoice k h = tt
 keep-next n noChoice k h = tt
 keep-next n stuck k h = tt
@@ -67,7 +67,7 @@ module _ (s : State) (a : ℕ) (v : Value) (n : ℕ) (k : State → Work Move) (
 
       go : (o : Out Value) → Keeps n (next (next o (λ old. if eqb (formOf v) (formOf old) then give (withVar s a v) else wrong)) k)
       go (gives old cs) = one (eqb (formOf v) (formOf old)) cs
-      go (fails cs) = tt
+      go (fails why cs) = tt
       go badChoice = tt
       go noChoice = tt
       go stuck = tt
@@ -113,7 +113,7 @@ module _ (ps : List ℕ) (t : Table) (s : State) where
 
   keep-repeat : (ls : List Loop) (cs : List ℕ) → Keeps same (repeatLoop ps t s ls cs)
   keep-repeat [] cs = tt
-  keep-repeat (l ∷ ls) cs = keep-next same (add (l .start) 1 cs) _
+  keep-repeat (l ∷ ls) cs = keep-next same (nextStart (l .start) cs) _
       (λ x cs. keep-loop (withLoops s ls) refl (l .row) (rowKind (rowAt t (l .row) .kind)) x (l .end) (give (suc (s .here .row))) cs)
 
   one-more : (s′ : State) → length (s′ .arrays) ≡ same → (n : ℕ) (f : Bool) (cs : List ℕ) → Keeps (suc same) (gives (addArray ps s′ n f) cs)

@@ -20,7 +20,7 @@ use Rattle.model.specs.Work.{Out, Work}
 use Rattle.model.specs.Work.Out.{gives, fails, badChoice, noChoice, stuck}
 use Rattle.model.specs.State.{Value, Loop, State}
 use Rattle.model.specs.State.Value.{Truth, Uint, Class, Pointer}
-use Rattle.model.specs.Eval.{Of, Ptr, below, evalF, contentsOf, load, variableOf, add}
+use Rattle.model.specs.Eval.{Of, Ptr, below, evalF, contentsOf, load, variableOf, nextStart}
 use Rattle.model.specs.Step.{Move, finished, node, step}
 use Rattle.model.specs.Step.Move.{to, stop}
 use Rattle.model.specs.Writer.{given, numberOf, kept, heldReduced, loadChoices, storeChoices, loopChoices, repeatChoices, choicesRule, choicesF}
@@ -65,14 +65,14 @@ fewer-next xs m h = let e = two-next m in let o = two-some m in omega (numbers, 
 
 given-fewer : {A : Type 0} (o : Out A) (k : A → List ℕ) (m : ℕ) → ((a : A) → Fewer (k a) (two m)) → Fewer (given o k) (two m)
 given-fewer (gives a cs) k m h = h a
-given-fewer (fails cs) k m h = fewer-none m
+given-fewer (fails why cs) k m h = fewer-none m
 given-fewer badChoice k m h = fewer-none m
 given-fewer noChoice k m h = fewer-none m
 given-fewer stuck k m h = fewer-none m
 
 given-one : {A : Type 0} (o : Out A) (k : A → List ℕ) → ((a : A) → length (k a) ≤ 1) → length (given o k) ≤ 1
 given-one (gives a cs) k h = h a
-given-one (fails cs) k h = omega numbers
+given-one (fails why cs) k h = omega numbers
 given-one badChoice k h = omega numbers
 given-one noChoice k h = omega numbers
 given-one stuck k h = omega numbers
@@ -172,7 +172,7 @@ module _ (ps : List ℕ) (t : Table) (ks : List Bool) (s : State) where
 
     given-most : {A : Type 0} (o : Out A) (k : A → List ℕ) (m : ℕ) → ((x : A) → length (k x) ≤ m) → length (given o k) ≤ m
     given-most (gives a cs) k m h = h a
-    given-most (fails cs) k m h = omega numbers
+    given-most (fails why cs) k m h = omega numbers
     given-most badChoice k m h = omega numbers
     given-most noChoice k m h = omega numbers
     given-most stuck k m h = omega numbers
@@ -203,7 +203,7 @@ module _ (ps : List ℕ) (t : Table) (ks : List Bool) (s : State) where
 
     repeat-most : (ls : List Loop) → length (repeatChoices ps t ks s ls) ≤ 8192
     repeat-most [] = omega numbers
-    repeat-most (l ∷ ls) = let h = given-most (add (l .start) 1 []) (λ x. loopChoices ps t ks s (l .row) x (l .end)) 2
+    repeat-most (l ∷ ls) = let h = given-most (nextStart (l .start) []) (λ x. loopChoices ps t ks s (l .row) x (l .end)) 2
         (λ x. loop-most (l .row) x (l .end)) in omega (numbers, h)
 
     row-most : (n : ℕ) (k : Row) (a b c : ℕ) → length (rowChoices ps t ks s n k a b c) ≤ 8192
@@ -234,7 +234,7 @@ module _ (ps : List ℕ) (t : Table) (shallow : (n : ℕ) → n < t .nodes → d
   onward-most : (o : Out Move) (go : State → List ℕ) (m : ℕ) → ((s : State) → length (go s) ≤ m) → length (onward o go) ≤ m
   onward-most (gives (to s) cs) go m h = h s
   onward-most (gives (stop e) cs) go m h = omega numbers
-  onward-most (fails cs) go m h = omega numbers
+  onward-most (fails why cs) go m h = omega numbers
   onward-most badChoice go m h = omega numbers
   onward-most noChoice go m h = omega numbers
   onward-most stuck go m h = omega numbers

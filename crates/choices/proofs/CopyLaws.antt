@@ -1,6 +1,6 @@
 -- The copy of a plain table is plain, and a row recorded on it says what the table's row comes to, and its numbers.
 -- Assumes nothing.
-use mathlib.Core.Path.{_≡_, refl, sym, ap, _∙_, subst}
+use mathlib.Core.Path.{_≡_, sym, ap, _∙_, subst}
 use Prim.Native.Nat.{ℕ, _+_, _*_, _≤_, _<_}
 use native.Mathlib.Omega.{arith}
 use native.Mathlib.Decide.{decLe}
@@ -45,6 +45,13 @@ use Rattle.runs.specs.CodeSteps.{Ready}
 use Rattle.runs.proofs.RunLaws.{run-next}
 use Rattle.runs.proofs.ReadyLaws.{worked-same, moves-same}
 use Rattle.choices.specs.CodeSteps.{countOf}
+
+-- it failed, and has a reason
+abbrev pub HasReason : Failure → Type 0
+HasReason (Fails why) = Unit {0}
+HasReason BadChoice = ⊥
+HasReason NoChoice = ⊥
+HasReason Stuck = ⊥
 
 -- the kinds that the plain machine takes
 module _ (k : ℕ) (e : known plain k ≡ true) where
@@ -119,10 +126,10 @@ module _ (t : List ℕ) (f : Frame) (p : f .classes ≡ false) (m : Machine) (ce
               (subst (λ (k : MachineKind). CanHave [] k table here) kind-plain
                   (subst (λ (ps : List ℕ). CanHave ps (kindOf f) table here) no-places (R .can))) 1 [])
 
-      -- ... so all that it may fail by is a failure
-      pub only-fails : (why : Failure) (n : ℕ) → step [] table here [] ≡ moveOut own m cells [] (Not why n) → why ≡ Fails
+      -- ... so if it comes to nothing it has failed
+      pub only-fails : (why : Failure) (n : ℕ) → step [] table here [] ≡ moveOut own m cells [] (Not why n) → HasReason why
       unfolding moveOut failed
-      only-fails Fails n e = refl
+      only-fails (Fails why) n e = tt
       only-fails BadChoice n e = absurd (ends e .0)
       only-fails NoChoice n e = absurd (ends e .0)
       only-fails Stuck n e = absurd (ends e)
@@ -132,7 +139,10 @@ module _ (t : List ℕ) (f : Frame) (p : f .classes ≡ false) (m : Machine) (ce
       unfolding ReachedMove ReachedBy
       reached (Moves x n) e r = r
       reached (Ends end n) e r = r
-      reached (Not why n) {out} {p} e r = subst (λ (why : Failure). ReachedBy why n out p) (only-fails why n e) r
+      reached (Not (Fails why) n) e r = r
+      reached (Not BadChoice n) e r = absurd (only-fails BadChoice n e)
+      reached (Not NoChoice n) e r = absurd (only-fails NoChoice n e)
+      reached (Not Stuck n) e r = absurd (only-fails Stuck n e)
 
       -- a recorded row
       module _ (held before out : List ℕ) (w : Worked) (S : StepRecords own m cells held w before out) where

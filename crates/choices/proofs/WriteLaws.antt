@@ -30,7 +30,7 @@ use Rattle.prepared.specs.Own.{Own}
 use Rattle.prepared.proofs.SameLaws.{own-same}
 use Rattle.evaluators.specs.CodeAnswers.{failed}
 use Rattle.evaluators.specs.declared.answers.Failure.{Failure}
-use Rattle.evaluators.specs.declared.answers.Failure.the-variants.{Fails}
+use Rattle.evaluators.specs.declared.answers.Failure.the-variants.{Fails, BadChoice, NoChoice, Stuck}
 use Rattle.evaluators.proofs.ViewLaws.{count-arrays}
 use Rattle.machine.specs.declared.Machine.{Machine}
 use Rattle.machine.specs.declared.Move.{Move}
@@ -56,13 +56,7 @@ use Rattle.choices.specs.CodeSteps.{Begins, countOf, heldWith, stoppedOf
 use Rattle.choices.proofs.ArrayLaws.{arraysAfter, step-arrays}
 use Rattle.choices.proofs.BoundLaws.{step-most}
 use Rattle.choices.proofs.HeldLaws.{held-next, held-length}
-use Rattle.choices.proofs.CopyLaws.{no-places, accepted-plain, only-fails, row-is, goes-on, numbers-are}
-
--- ---- what stands for a row that did not go on to an end
-pub other-stop : (w : Worked) (n at : ℕ) (m : Machine) → OneOf (0 ∷ 2 ∷ []) (tagOf worked w) → ran Code.Fail (suc n) at m ≡ stoppedOf w n at m
-other-stop (Moves x next) n at m h = refl
-other-stop (Ends e next) n at m h = absurd (miss (0 ∷ 2 ∷ []) 1 tt h)
-other-stop (Not why next) n at m h = refl
+use Rattle.choices.proofs.CopyLaws.{HasReason, no-places, accepted-plain, only-fails, row-is, goes-on, numbers-are}
 
 -- ---- a step keeps as many cells
 cells-kept : (count : ℕ) (cells : List ℕ) (x : Move) → Can count (length cells) x → length (cellsOf cells x) ≡ length cells
@@ -202,8 +196,8 @@ module _ {t : List ℕ} {f : Frame} {lent : List ℕ} {limit : ℕ} {m₀ : Mach
   row-comes-to : step [] table here [] ≡ moveOut own m cells [] w
   row-comes-to = row-is t f (K .begins .plain) m cells (L .ready) own (K .copy) (K .inside) held buffer numbers w (K .row)
 
-  -- all that it may fail by is a failure
-  fails-here : (why : Failure) (n : ℕ) → step [] table here [] ≡ moveOut own m cells [] (Not why n) → why ≡ Fails
+  -- if it comes to nothing it has failed
+  fails-here : (why : Failure) (n : ℕ) → step [] table here [] ≡ moveOut own m cells [] (Not why n) → HasReason why
   fails-here = only-fails t f (K .begins .plain) m cells (L .ready) own (K .copy) (K .inside)
 
   one-left : limit - steps ≡ suc (limit - suc steps)
@@ -291,7 +285,10 @@ module _ {t : List ℕ} {f : Frame} {lent : List ℕ} {limit : ℕ} {m₀ : Mach
                 → WriterWrites t f m₀ cs₀ lent limit (stoppedOf w steps (at + n) m) cells list′
             go (Moves x next) e h = absurd (miss (1 ∷ 2 ∷ []) 0 tt h)
             go (Ends c next) e h = stop-at c (by-step e)
-            go (Not why next) e h = stop-at Code.Fail (by-step (e ∙ ap (failed [] next) (fails-here why next e)))
+            go (Not (Fails why) next) e h = stop-at (Code.Fail why) (by-step e)
+            go (Not BadChoice next) e h = absurd (fails-here BadChoice next e)
+            go (Not NoChoice next) e h = absurd (fails-here NoChoice next e)
+            go (Not Stuck next) e h = absurd (fails-here Stuck next e)
 
         -- the run goes on
         module _ {x : Move} {next : ℕ} (moves : w ≡ Moves x next) (m′ : Machine) (cells′ : List ℕ) (em : m′ ≡ stepOf m x) (ec : cells′ ≡ cellsOf cells x)

@@ -19,7 +19,10 @@ use Rattle.runs.specs.CodeSteps.{Ready, ran}
 use mathlib.Core.Bool.{false}
 use Rattle.machine.specs.declared.Worked.{Worked}
 use Rattle.machine.specs.declared.Worked.the-variants.{Moves, Ends, Not}
+use Rattle.machine.specs.declared.End.{End}
 use Rattle.machine.specs.declared.End.the-variants as Code
+use Rattle.evaluators.specs.declared.answers.Failure.{Failure}
+use Rattle.evaluators.specs.declared.answers.Failure.the-variants.{Fails, BadChoice, NoChoice, Stuck}
 use Rattle.runs.specs.declared.Ran.{Ran}
 use Rattle.choices.specs.Ends.{reportOf}
 
@@ -45,10 +48,16 @@ countOf (Not why n) = n
 
 -- A row that does not go on, after n steps, with the numbers up to `at` written: it counts, and so do they (rule 2.29).
 -- A plain step takes no choice and is never stuck, and none that goes on is asked of, so what stands for those is never handed back.
+abbrev pub failedEnd : Failure → End
+failedEnd (Fails why) = Code.Fail why
+failedEnd BadChoice = Code.OutOfSteps
+failedEnd NoChoice = Code.OutOfSteps
+failedEnd Stuck = Code.OutOfSteps
+
 abbrev pub stoppedOf : Worked → ℕ → ℕ → Machine → Ran
-stoppedOf (Moves x next) n at m = ran Code.Fail (suc n) at m
+stoppedOf (Moves x next) n at m = ran Code.OutOfSteps (suc n) at m
 stoppedOf (Ends e next) n at m = ran e (suc n) at m
-stoppedOf (Not why next) n at m = ran Code.Fail (suc n) at m
+stoppedOf (Not why next) n at m = ran (failedEnd why) (suc n) at m
 
 -- what is handed back is a report; its numbers are in the list, which is otherwise as it was lent (rule 4.10)
 pub record Writes (t : List ℕ) (f : Frame) (r : Ran) (cells list lent : List ℕ) (said : Report) : Type 0 where

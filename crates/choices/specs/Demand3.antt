@@ -22,7 +22,7 @@ use Rattle.runs.specs.Promises.{SaysRight}
 use Rattle.choices.specs.Answers.{wroteSaid, writerSaid}
 use Rattle.choices.specs.Answers.Said.{refusal, writes}
 
--- what a plain and a reduced run say: the same end, row and steps, states that agree, and the whole list used (rule 10.8)
+-- what a plain and a reduced run say: the same end (with its reason), row and steps, states that agree, and the whole list used (rule 10.8)
 pub record SayMatched (ps P list : List ℕ) (plainSays reducedSays : Said) : Type 0 where
   pub plainReport : Report
   pub reducedReport : Report

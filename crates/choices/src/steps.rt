@@ -1,5 +1,6 @@
 // The loop of the choice writer.
 use crate::marks::hold;
+use evaluators::answers::Failure;
 use machine::End;
 use machine::Machine;
 use machine::Move;
@@ -15,7 +16,7 @@ ghost use Prim.Native.Nat.{_+_, _<_, _≤_};
 ghost use lib.ListN.{length};
 ghost use lib.Seq.{paste};
 ghost use Rattle.runs.specs.CodeSteps.{ran};
-ghost use Rattle.choices.specs.CodeSteps.{Begins, countOf, stoppedOf, WriterWrites};
+ghost use Rattle.choices.specs.CodeSteps.{Begins, countOf, failedEnd, stoppedOf, WriterWrites};
 
 // How many numbers a row has.
 fn count_of(w: Worked) -> usize
@@ -49,6 +50,18 @@ fn wrote_to(end: End, steps: u32, at: usize, machine: Machine) -> Ran
     }
 }
 
+// The end of a row that failed. A plain row takes no choice and is never stuck: what stands for those is never handed back.
+fn failed_end(why: Failure) -> End
+    ensures { λ r. ⌜ r ≡ failedEnd why ⌝ }
+{
+    match why {
+        Failure::Fails(reason) => End::Fail(reason),
+        Failure::BadChoice => End::OutOfSteps,
+        Failure::NoChoice => End::OutOfSteps,
+        Failure::Stuck => End::OutOfSteps,
+    }
+}
+
 // A row that did not go on, after so many steps, with the row's numbers written.
 fn stopped(w: Worked, steps: u32, at: usize, machine: Machine) -> Ran
     requires { ⌜ steps < 4294967295 ⌝ }
@@ -56,7 +69,8 @@ fn stopped(w: Worked, steps: u32, at: usize, machine: Machine) -> Ran
 {
     match w {
         Worked::Ends(end, _) => wrote_to(end, steps + 1, at, machine),
-        _ => wrote_to(End::Fail, steps + 1, at, machine),
+        Worked::Not(why, _) => wrote_to(failed_end(why), steps + 1, at, machine),
+        Worked::Moves(_, _) => wrote_to(End::OutOfSteps, steps + 1, at, machine),
     }
 }
 

@@ -37,7 +37,7 @@ run-within ps t (suc k) n s cs = go (finished t s) (step ps t s cs) (run-within 
     go true o h = omega arith
     go false (gives (to s′) cs′) h = let z : suc n + k ≡ n + suc k = omega arith in rw z at (h s′ cs′)
     go false (gives (stop e) cs′) h = omega arith
-    go false (fails cs′) h = omega arith
+    go false (fails why cs′) h = omega arith
     go false badChoice h = omega arith
     go false noChoice h = omega arith
     go false stuck h = tt

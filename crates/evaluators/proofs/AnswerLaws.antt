@@ -17,6 +17,8 @@ use Rattle.model.specs.State.{Array}
 use Rattle.model.specs.Eval.{Of, Ptr, ptr}
 use Rattle.evaluators.specs.CodeAnswers.{failed, outOf, OfType, Answers, Says, Lent, operand}
 use Rattle.evaluators.specs.CodeLeaves.{arith, movedBy, validIn, testOf}
+use Rattle.evaluators.specs.Reasons.{reasonOf}
+use Rattle.evaluators.specs.declared.answers.Reason.{Reason}
 use Rattle.evaluators.proofs.answers.Answer.{the-type as answer}
 use Rattle.evaluators.specs.declared.answers.Failure.{Failure}
 use Rattle.evaluators.specs.declared.answers.Failure.the-variants.{Fails, BadChoice, NoChoice, Stuck}
@@ -46,9 +48,9 @@ pub said-not : (w : Ty) {l : List ℕ} {at : ℕ} {f : Failure} {o : Out (Of w)}
 unfolding outOf
 said-not w {at = at} {f = f} e = record { said = e; typed = not-typed w f at }
 
-pub said-fails : (w : Ty) {l : List ℕ} {at : ℕ} {o : Out (Of w)} → fails (drop at l) ≡ o → Answers w l (Not Fails at) o
+pub said-fails : (w : Ty) (why : Reason) {l : List ℕ} {at : ℕ} {o : Out (Of w)} → fails (reasonOf why) (drop at l) ≡ o → Answers w l (Not (Fails why) at) o
 unfolding failed
-said-fails w e = said-not w e
+said-fails w why e = said-not w e
 
 pub said-stuck : (w : Ty) {l : List ℕ} {at : ℕ} {o : Out (Of w)} → stuck ≡ o → Answers w l (Not Stuck at) o
 unfolding failed
@@ -73,14 +75,14 @@ followed w o k = next o k
 
 pub right-id : {A : Type 0} (o : Out A) → next o give ≡ o
 right-id (gives a cs) = refl
-right-id (fails cs) = refl
+right-id (fails why cs) = refl
 right-id badChoice = refl
 right-id noChoice = refl
 right-id stuck = refl
 
 pub failed-next : {A B : Type 0} (l : List ℕ) (at : ℕ) (f : Failure) (k : A → Work B) → failed l at f ≡ next (failed l at f) k
 unfolding failed
-failed-next l at Fails k = refl
+failed-next l at (Fails why) k = refl
 failed-next l at BadChoice k = refl
 failed-next l at NoChoice k = refl
 failed-next l at Stuck k = refl

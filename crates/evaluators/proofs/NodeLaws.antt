@@ -50,7 +50,7 @@ module _ (N : ℕ) where
           → next ((if_then_else_ {A = Work Ptr} b (give p) wrong) cs) (present N pointer) ≡ (if_then_else_ {A = Work Ptr} b (give p) wrong) cs
       go true e = rw e
       go false e = refl
-  twice pointer (fails cs) = refl
+  twice pointer (fails why cs) = refl
   twice pointer badChoice = refl
   twice pointer noChoice = refl
   twice pointer stuck = refl
@@ -62,7 +62,7 @@ module _ (N : ℕ) where
     where
       third : leb (p .array) N ≡ true → (o : Out ℕ) → next (next o (λ z. give (ptr (p .array) z))) (present N pointer) ≡ next o (λ z. give (ptr (p .array) z))
       third e (gives z ds) = rw e
-      third e (fails ds) = refl
+      third e (fails why ds) = refl
       third e badChoice = refl
       third e noChoice = refl
       third e stuck = refl
@@ -71,7 +71,7 @@ module _ (N : ℕ) where
           → next (next o (λ b. op (p .place) b >>= λ z. give (ptr (p .array) z))) (present N pointer)
           ≡ next o (λ b. op (p .place) b >>= λ z. give (ptr (p .array) z))
       rest (gives b ds) e = third e (op (p .place) b ds)
-      rest (fails ds) e = refl
+      rest (fails why ds) e = refl
       rest badChoice e = refl
       rest noChoice e = refl
       rest stuck e = refl
@@ -79,7 +79,7 @@ module _ (N : ℕ) where
       go : (b : Bool) → leb (p .array) N ≡ b → {X : Type 0} → (leb (p .array) N ≡ true → X) → X
       go true e k = k e
       go false e k = absurd (let q : _≡_ {A = Out Ptr} stuck (gives p cs) = rw e at h in let z : _≡_ {A = ℕ} 0 1 = cc in omega numbers)
-  moved-kept op (fails cs) y h = refl
+  moved-kept op (fails why cs) y h = refl
   moved-kept op badChoice y h = refl
   moved-kept op noChoice y h = refl
   moved-kept op stuck y h = refl
@@ -146,7 +146,7 @@ module _ (e : Lent) where
   unfolding followed branch
   if-kept w n b c (gives true cs) = operand-kept w n b cs
   if-kept w n b c (gives false cs) = operand-kept w n c cs
-  if-kept w n b c (fails cs) = refl
+  if-kept w n b c (fails why cs) = refl
   if-kept w n b c badChoice = refl
   if-kept w n b c noChoice = refl
   if-kept w n b c stuck = refl

@@ -20,8 +20,8 @@ use Rattle.model.specs.Table.{Ty, nodeKind, nodeKinds}
 use Rattle.model.specs.Table.Ty.{bool, uint, pointer}
 use Rattle.model.specs.Table.Node.{variable, uintConstant, boolConstant, cell, plus, minus, less, atMost, equal, conditional, valid, classVariable}
 use Rattle.model.specs.Table.Node.{reducedCell, reducedValid, noNode}
-use Rattle.model.specs.Work.{Out, next, give, choose}
-use Rattle.model.specs.Work.Out.{gives, stuck}
+use Rattle.model.specs.Work.{Out, Work, next, give, wrong, choose}
+use Rattle.model.specs.Work.Out.{gives, fails, badChoice, noChoice, stuck}
 use Rattle.model.specs.State.{Array, Value}
 use Rattle.model.specs.State.Value.{Uint}
 use Rattle.model.specs.Eval.{Of, ofType, asUint, asBool, asPointer, asClass, variableOf, arrayOf, noArray, present}
@@ -38,7 +38,7 @@ use Rattle.evaluators.specs.declared.answers.Failure.the-variants.{BadCh
 use Rattle.evaluators.specs.declared.answers.Answer.{Answer}
 use Rattle.evaluators.specs.declared.answers.Answer.the-variants.{Bool as ABool, Uint as AUint, Pointer as APointer, Not}
 use Rattle.evaluators.specs.declared.arrays.Target.the-variants.{Array as To, Missing, Unknown}
-use Rattle.evaluators.specs.CodeAnswers.{failed, Answers, Says}
+use Rattle.evaluators.specs.CodeAnswers.{failed, Answers}
 use Rattle.evaluators.specs.CodeLeaves.{heldFor, HoldsFor, HoldsPointer, ClassChoice, classIn, targetOut, Points, storedIn, readOf, validIn}
 use Rattle.evaluators.proofs.AnswerLaws.{said-bool, said-uint, said-pointer, said-not, said-stuck, says-same}
 
@@ -236,14 +236,23 @@ module _ (count : ℕ) (fs ls hs : List ℕ) where
       let e : suc i - 1 ≡ i = omega numbers in
       rw e (record { found = λ cs. rw (count-arrays, lt-ltb i count h) (ap (λ r. gives r cs) (sym (array-at i h))) })
 
-pub valid-some : (rs : List Array) (to p : ℕ) → to ≢ 0 → (cs : List ℕ) → validIn rs to p cs ≡ next (arrayOf rs to cs) (λ r. give (ltb p (r .len)))
-unfolding validIn
-valid-some rs zero p ne cs = absurd (ne refl)
-valid-some rs (suc i) p ne cs = refl
+-- ---- 26 and 29, by what the pointer's array comes to: with none it is false
+abbrev pub validBy : ℕ → Out Array → Out Bool
+validBy p (gives r cs) = gives (ltb p (r .len)) cs
+validBy p (fails why cs) = gives false cs
+validBy p badChoice = badChoice
+validBy p noChoice = noChoice
+validBy p stuck = stuck
 
-pub valid-none : (rs : List Array) (to p at : ℕ) → to ≡ 0 → Says bool at (ABool false at) (validIn rs to p)
+pub valid-by : (rs : List Array) (to p : ℕ) (cs : List ℕ) → validIn rs to p cs ≡ validBy p (arrayOf rs to cs)
 unfolding validIn
-valid-none rs to p at e = record { says = λ l. said-bool (rw e) }
+valid-by rs zero p cs = refl
+valid-by rs (suc i) p cs = go (ltb i (length rs)) (getD rs i noArray)
+  where
+    go : (b : Bool) (r : Array) → next ((if_then_else_ {A = Work Array} b (give r) wrong) cs) (λ r. give (ltb p (r .len)))
+        ≡ validBy p ((if_then_else_ {A = Work Array} b (give r) wrong) cs)
+    go true r = refl
+    go false r = refl
 
 pub read-plain : (m : Bool) (ps cells : List ℕ) (start len p : ℕ) → readOf m ps cells start len false p ≡ storedIn cells start len p
 unfolding readOf storedIn

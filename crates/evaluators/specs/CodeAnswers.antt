@@ -11,6 +11,7 @@ use Rattle.model.specs.State.{Value, Array}
 use Rattle.model.specs.Eval.{Contents, Of, Ptr, ptr, bools, uints, below, eval}
 use Rattle.prepared.specs.View.{arraysOf}
 use Rattle.prepared.specs.Own.{ownTable, ownVars, placesOf}
+use Rattle.evaluators.specs.Reasons.{reasonOf}
 use Rattle.evaluators.specs.declared.answers.Failure.{Failure}
 use Rattle.evaluators.specs.declared.answers.Failure.the-variants.{Fails, BadChoice, NoChoice, Stuck}
 use Rattle.evaluators.specs.declared.answers.Answer.{Answer}
@@ -18,7 +19,7 @@ use Rattle.evaluators.specs.declared.answers.Answer.the-variants.{Bool a
 
 -- ---- why there is no value, with the cursor at `at` into the list l
 unfoldable pub failed : {A : Type 0} → List ℕ → ℕ → Failure → Out A
-failed l at Fails = fails (drop at l)
+failed l at (Fails why) = fails (reasonOf why) (drop at l)
 failed l at BadChoice = badChoice
 failed l at NoChoice = noChoice
 failed l at Stuck = stuck

@@ -13,6 +13,7 @@ use Rattle.model.specs.Table.Node.{reducedCell, reducedValid, noNode}
 use Rattle.model.specs.Table.Ty.{uint, pointer}
 use Rattle.model.specs.Work.{Out, Work, _>>=_, give, fail, wrong, choose}
 use Rattle.model.specs.Work.Out.{gives, fails, stuck}
+use Rattle.model.specs.Work.Reason.{withoutArray, pastLength}
 use Rattle.model.specs.State.{Value, Array}
 use Rattle.model.specs.Eval.{Of, Ptr, ptr, add, subtract, arrayOf, cellOf, keeps, indexOf, variableOf, ofType, isValid, inClass, present}
 use Rattle.prepared.specs.Own.{ownTable, ownVars, placesOf}
@@ -45,7 +46,7 @@ pub record ClassChoice (own ns : List ℕ) (a : ℕ) (l : List ℕ) (at : ℕ) (
 -- ---- the array that a pointer points to, or why there is none
 unfoldable pub targetOut : Target → List ℕ → Out Array
 targetOut (To start len reduced) cs = gives (record { start = start; len = len; reduced = reduced }) cs
-targetOut Missing cs = fails cs
+targetOut Missing cs = fails withoutArray cs
 targetOut Unknown cs = stuck
 
 pub record Points (r : Target) (m : Work Array) : Type 0 where
@@ -71,7 +72,7 @@ readOf false ps cells start len reduced p = cellOf ps cells (record { start = st
 unfoldable pub loadOf : Bool → List ℕ → List Array → List ℕ → Ptr → Work ℕ
 loadOf m ps rs cells p = do
   r ← arrayOf rs (p .array)
-  if ltb (p .place) (r .len) then readOf m ps cells (r .start) (r .len) (r .reduced) (p .place) else fail
+  if ltb (p .place) (r .len) then readOf m ps cells (r .start) (r .len) (r .reduced) (p .place) else fail pastLength
 
 -- 26 and 29 (rules 2.15, 3.16)
 unfoldable pub validIn : List Array → ℕ → ℕ → Work Bool

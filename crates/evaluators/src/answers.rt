@@ -9,15 +9,39 @@ ghost use lib.Dec.{eqb};
 ghost use Rattle.lists.specs.If.{if_then_else_};
 ghost use Rattle.model.specs.Class.{class};
 ghost use Rattle.model.specs.Table.Ty.{bool, uint, pointer};
-ghost use Rattle.model.specs.Work.{give, choose};
+ghost use Rattle.model.specs.Work.{reasonNumber, give, choose};
+ghost use Rattle.model.specs.Eval.{nextStart};
 ghost use Rattle.prepared.specs.Own.{placesOf};
+ghost use Rattle.evaluators.specs.Reasons.{reasonOf};
 ghost use Rattle.evaluators.specs.CodeAnswers.{Answers, Says};
 ghost use Rattle.evaluators.specs.CodeLeaves.{arith, movedBy, testOf};
 
-// Why there is no value, of an operand, a row or a run: it failed; a choice is not allowed; no choice is left; or stuck, the outcome that is
-// no end.
+// Why an operand or a row failed (rule 2.36).
+pub enum Reason {
+    SumTooLarge,
+    BelowZero,
+    WithoutArray,
+    PastLength,
+    CounterTooLarge,
+}
+
+// The number of a reason.
+pub fn reason_number(why: Reason) -> u32
+    ensures { λ r. ⌜ r ≡ reasonNumber (reasonOf why) ⌝ }
+{
+    match why {
+        Reason::SumTooLarge => 1,
+        Reason::BelowZero => 2,
+        Reason::WithoutArray => 3,
+        Reason::PastLength => 4,
+        Reason::CounterTooLarge => 5,
+    }
+}
+
+// Why there is no value, of an operand, a row or a run: it failed, with its reason; a choice is not allowed; no choice is left; or stuck, the
+// outcome that is no end.
 pub enum Failure {
-    Fails,
+    Fails(Reason),
     BadChoice,
     NoChoice,
     Stuck,
@@ -40,12 +64,22 @@ pub fn computed(minus: bool, v: u32, w: u32, at: usize) -> Answer
         if w <= v {
             return Answer::Uint(v - w, at);
         }
-        return Answer::Not(Failure::Fails, at);
+        return Answer::Not(Failure::Fails(Reason::BelowZero), at);
     }
     if w <= 4294967295 - v {
         return Answer::Uint(v + w, at);
     }
-    Answer::Not(Failure::Fails, at)
+    Answer::Not(Failure::Fails(Reason::SumTooLarge), at)
+}
+
+// One more than the start of a loop, for its next round.
+pub fn next_start(v: u32, at: usize) -> Answer
+    ensures { λ r. ⌜ Says uint at r (nextStart v) ⌝ }
+{
+    if v < 4294967295 {
+        return Answer::Uint(v + 1, at);
+    }
+    Answer::Not(Failure::Fails(Reason::CounterTooLarge), at)
 }
 
 // A pointer to place v of an array, moved by w.

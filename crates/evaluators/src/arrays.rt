@@ -2,6 +2,7 @@
 // What is public here is for our crates above, which see to what it requires.
 use crate::answers::Answer;
 use crate::answers::Failure;
+use crate::answers::Reason;
 use crate::answers::any_choice;
 use prepared::places::class_in;
 use prepared::places::is_tracked;
@@ -122,11 +123,11 @@ pub fn cell<'a>(
     match x {
         Target::Array(start, len, reduced) => {
             if len <= place {
-                return Answer::Not(Failure::Fails, at);
+                return Answer::Not(Failure::Fails(Reason::PastLength), at);
             }
             kept_cell(tracking, own, cells, list, start, len, reduced, place, at)
         }
-        Target::Missing => Answer::Not(Failure::Fails, at),
+        Target::Missing => Answer::Not(Failure::Fails(Reason::WithoutArray), at),
         Target::Unknown => Answer::Not(Failure::Stuck, at),
     }
 }
@@ -144,13 +145,10 @@ pub fn valid<'a>(
     requires { ⌜ count ≤ 16 ⌝ }
     ensures { λ r. ⌜ Says bool at r (validIn (arraysOf count (now (firsts .entry)) (now (lengths .entry)) (now (shapes .entry))) to place) ⌝ }
 {
-    if to == 0 {
-        return Answer::Bool(false, at);
-    }
     let x = pointed(firsts, lengths, shapes, count, to);
     match x {
         Target::Array(_, len, _) => Answer::Bool(place < len, at),
-        Target::Missing => Answer::Not(Failure::Fails, at),
+        Target::Missing => Answer::Bool(false, at),
         Target::Unknown => Answer::Not(Failure::Stuck, at),
     }
 }

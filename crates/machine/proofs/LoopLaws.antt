@@ -28,7 +28,7 @@ use Rattle.model.specs.Work.{Out, Work, next, give, wrong, choose}
 use Rattle.model.specs.Work.Out.{gives, stuck}
 use Rattle.model.specs.State.{Value, Loop, State, formOf, position}
 use Rattle.model.specs.State.Value.{Uint, Class}
-use Rattle.model.specs.Eval.{add}
+use Rattle.model.specs.Eval.{nextStart}
 use Rattle.model.specs.Step.{Move, goTo, opened, withHere, withVar, enter, loopAt, repeatLoop, pastEnd, rowRule}
 use Rattle.model.specs.Step.Move.{to}
 use Rattle.prepared.specs.Own.{placesOf, rowsOf, ownTable, ownVars}
@@ -37,7 +37,6 @@ use Rattle.evaluators.specs.declared.answers.Failure.the-variants.{Stuck}
 use Rattle.evaluators.specs.declared.answers.Answer.{Answer}
 use Rattle.evaluators.specs.declared.answers.Answer.the-variants.{Uint as AUint}
 use Rattle.evaluators.specs.CodeAnswers.{Answers, Says, operand}
-use Rattle.evaluators.specs.CodeLeaves.{arith}
 use Rattle.machine.specs.declared.Machine.{Machine}
 use Rattle.machine.specs.declared.Move.the-variants.{Enters, Leaves}
 use Rattle.machine.specs.declared.Worked.{Worked}
@@ -410,14 +409,13 @@ module _ (own l : List ℕ) (m : Machine) (cells : List ℕ) (a b c at : ℕ) wh
     abbrev kind : Row
     kind = rowKind (rowAt (ownTable own) row .kind)
 
-    by-split : next (add (getD (m .starts) d 0) 1 (drop at l)) (onNext kind)
+    by-split : next (nextStart (getD (m .starts) d 0) (drop at l)) (onNext kind)
         ≡ rowRule (placesOf own) (ownTable own) (ownState own m cells) (m .row) loopEnd a b c (drop at l)
     by-split = sym (ap (λ (ls : List Loop). repeatLoop (placesOf own) (ownTable own) (ownState own m cells) ls (drop at l))
         (loops-split d (m .«loop_rows») (m .starts) (m .ends))) ∙ ap repeating (sym ed) ∙ by-repeat
 
-    module _ (x : Answer) (px : Says uint at x (arith false (getD (m .starts) d 0) 1)) where
-      added : Answers uint l x (add (getD (m .starts) d 0) 1 (drop at l))
-      unfolding arith
+    module _ (x : Answer) (px : Says uint at x (nextStart (getD (m .starts) d 0))) where
+      added : Answers uint l x (nextStart (getD (m .starts) d 0) (drop at l))
       added = px .says l
 
       pub repeat-ends : {z : Worked} → OneOf (0 ∷ 2 ∷ 3 ∷ []) (tagOf answer x) → z ≡ lostOf x → RowWorks own m cells l loopEnd a b c (drop at l) z

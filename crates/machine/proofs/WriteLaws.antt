@@ -21,6 +21,10 @@ use Rattle.model.specs.Step.{Move, made, past, withCell, put, write, rowRule}
 use Rattle.model.specs.Step.Move.{to}
 use Rattle.prepared.specs.Own.{placesOf, ownTable}
 use Rattle.evaluators.proofs.answers.Answer.{the-type as answer}
+use Rattle.model.specs.Work.Reason.{pastLength}
+use Rattle.evaluators.specs.Reasons.{reasonOf}
+use Rattle.evaluators.specs.declared.answers.Reason.{Reason}
+use Rattle.evaluators.specs.declared.answers.Reason.the-variants.{WithoutArray, PastLength}
 use Rattle.evaluators.specs.declared.answers.Failure.the-variants.{Fails, Stuck}
 use Rattle.evaluators.specs.declared.answers.Answer.{Answer}
 use Rattle.evaluators.specs.declared.answers.Answer.the-variants.{Uint as AUint, Pointer as APointer}
@@ -40,9 +44,9 @@ use Rattle.machine.proofs.PutLaws.{othersOf, works-same, works-stuck, l
 
 -- ---- what a row comes to
 module _ {own : List ℕ} {m : Machine} {cells l : List ℕ} where
-  pub works-fails : {at : ℕ} {o : Out Move} → fails (drop at l) ≡ o → Works own m cells l (Not Fails at) o
+  pub works-fails : (why : Reason) {at : ℕ} {o : Out Move} → fails (reasonOf why) (drop at l) ≡ o → Works own m cells l (Not (Fails why) at) o
   unfolding moveOut CanDo failed
-  works-fails e = record { said = e; can = tt }
+  works-fails why e = record { said = e; can = tt }
 
   -- it changes nothing but the row
   pub works-goes : {at : ℕ} {o : Out Move} → gives (to (past (ownState own m cells))) (drop at l) ≡ o → Works own m cells l (Moves Goes at) o
@@ -97,16 +101,17 @@ module _ (own : List ℕ) (m : Machine) (cells l : List ℕ) {room : ℕ} (fits 
   unfolding placeGets
   place-works start len reduced p x at = go (ltb p len)
     where
-      go : (b : Bool) → Works own m cells l (if b then cellGets room start (sizeOf (placesOf own) (made start len reduced)) p x at else Not Fails at)
-          ((if_then_else_ {A = Work Move} b (put (placesOf own) state (made start len reduced) p x) fail) (drop at l))
+      go : (b : Bool) → Works own m cells l
+          (if b then cellGets room start (sizeOf (placesOf own) (made start len reduced)) p x at else Not (Fails PastLength) at)
+          ((if_then_else_ {A = Work Move} b (put (placesOf own) state (made start len reduced) p x) (fail pastLength)) (drop at l))
       go true = cell-works (made start len reduced) p x at
-      go false = works-fails refl
+      go false = works-fails PastLength refl
 
   pub target-works : (t : Target) (p x at : ℕ)
       → Works own m cells l (targetGets own room t p x at) (next (targetOut t (drop at l)) (storeIn false (placesOf own) state p x))
   unfolding targetOut
   target-works (To start len reduced) p x at = place-works start len reduced p x at
-  target-works Missing p x at = works-fails refl
+  target-works Missing p x at = works-fails WithoutArray refl
   target-works Unknown p x at = works-stuck refl
 
   -- t is what a pointer to place p points to
@@ -125,12 +130,12 @@ module _ (own : List ℕ) (m : Machine) (cells l : List ℕ) {room : ℕ} (fits 
       at-class = class (placesOf own) p
 
       go : (b d : Bool) → Works own m cells l
-          (if b then (if d then cellGets room start (class (placesOf own) len) at-class x at else Moves Goes at) else Not Fails at)
-          ((if_then_else_ {A = Work Move} b (if d then put (placesOf own) state (made start len true) at-class x else give (to (past state))) fail)
+          (if b then (if d then cellGets room start (class (placesOf own) len) at-class x at else Moves Goes at) else Not (Fails PastLength) at)
+          ((if_then_else_ {A = Work Move} b (if d then put (placesOf own) state (made start len true) at-class x else give (to (past state))) (fail pastLength))
           (drop at l))
       go true true = cell-works (made start len true) at-class x at
       go true false = works-goes refl
-      go false d = works-fails refl
+      go false d = works-fails PastLength refl
 
 -- ---- 34, or 40, as the functions give it: z is what one came to
 module _ (own l : List ℕ) (room : ℕ) where
@@ -168,9 +173,9 @@ module _ (own l : List ℕ) (room : ℕ) where
     reduced-plain {start} {len} et ef e = rw (et, ef)
         (record { stores = λ m cells f. works-by (place-works own m cells l f start len false p x at) e })
 
-    pub reduced-missing : t ≡ Missing → Reduced (Not Fails at)
+    pub reduced-missing : t ≡ Missing → Reduced (Not (Fails WithoutArray) at)
     unfolding targetOut
-    reduced-missing et = rw et (record { stores = λ m cells f. works-fails refl })
+    reduced-missing et = rw et (record { stores = λ m cells f. works-fails WithoutArray refl })
 
     pub reduced-unknown : t ≡ Unknown → Reduced (Not Stuck at)
     unfolding targetOut

@@ -11,6 +11,7 @@ use Rattle.model.specs.Table.{Table, Row, nestAt}
 use Rattle.model.specs.Table.Row.{store, reducedStore, loop, classLoop}
 use Rattle.model.specs.Table.Nest.{opens}
 use Rattle.model.specs.Work.{Out, Work, _>>=_, give, fail, choose}
+use Rattle.model.specs.Work.Reason.{pastLength}
 use Rattle.model.specs.Work.Out.{gives}
 use Rattle.model.specs.State.{Value, Array, State}
 use Rattle.model.specs.State.Value.{Uint, Class}
@@ -152,12 +153,12 @@ storeRow false = store
 
 -- place v of an array gets x, by 40 (rule 3.18)
 abbrev pub keptIn : List ℕ → State → ℕ → Array → ℕ → Work ModelMove
-keptIn ps s x r v = if ltb v (r .len) then (if keeps ps r v then put ps s r (indexOf ps r v) x else give (to (past s))) else fail
+keptIn ps s x r v = if ltb v (r .len) then (if keeps ps r v then put ps s r (indexOf ps r v) x else give (to (past s))) else fail pastLength
 
 -- place p of an array gets x, by 40 or by 34: what the model's `reducedWrite` and `write` do with the array
 abbrev pub storeIn : Bool → List ℕ → State → ℕ → ℕ → Array → Work ModelMove
 storeIn true ps s p x r = (if r .reduced then choose (λ v. eqb (class ps v) (class ps p)) else give p) >>= keptIn ps s x r
-storeIn false ps s p x r = if ltb p (r .len) then put ps s r p x else fail
+storeIn false ps s p x r = if ltb p (r .len) then put ps s r p x else fail pastLength
 
 -- what a write comes to is o of the state, whatever the record and the cells, of which so many are lent
 pub record Stores (own l : List ℕ) (room : ℕ) (r : Worked) (o : State → Out ModelMove) : Type 0 where

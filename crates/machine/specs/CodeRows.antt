@@ -16,6 +16,7 @@ use Rattle.prepared.specs.Own.{placesOf, declsOf, rowsOf, ownTable, ownForm}
 use Rattle.evaluators.specs.declared.arrays.Target.{Target}
 use Rattle.evaluators.specs.declared.arrays.Target.the-variants.{Array as To, Missing, Unknown}
 use Rattle.evaluators.specs.declared.answers.Failure.the-variants.{Fails, Stuck}
+use Rattle.evaluators.specs.declared.answers.Reason.the-variants.{WithoutArray, PastLength}
 use Rattle.evaluators.specs.declared.answers.Answer.{Answer}
 use Rattle.evaluators.specs.declared.answers.Answer.the-variants.{Bool as ABool, Uint as AUint, Pointer as APointer, Not as NoValue}
 use Rattle.machine.specs.declared.End.the-variants.{AssertFalse, AssumeFalse, WantOfCells}
@@ -113,19 +114,19 @@ cellGets room start size i x at =
 -- place p of an array gets x, by 34
 unfoldable pub placeGets : List ℕ → ℕ → ℕ → ℕ → Bool → ℕ → ℕ → ℕ → Worked
 placeGets own room start len reduced p x at =
-    if ltb p len then cellGets room start (sizeFor (placesOf own) len reduced) p x at else Not Fails at
+    if ltb p len then cellGets room start (sizeFor (placesOf own) len reduced) p x at else Not (Fails PastLength) at
 
 -- ... by 40, of a reduced array (rule 3.18)
 unfoldable pub trackedGets : List ℕ → ℕ → ℕ → ℕ → ℕ → ℕ → ℕ → Worked
 trackedGets own room start len p x at =
     if ltb p len
     then (if tracked (placesOf own) p then cellGets room start (class (placesOf own) len) (class (placesOf own) p) x at else Moves Goes at)
-    else Not Fails at
+    else Not (Fails PastLength) at
 
 -- ... by 34, of the array that a pointer points to
 abbrev pub targetGets : List ℕ → ℕ → Target → ℕ → ℕ → ℕ → Worked
 targetGets own room (To start len reduced) p x at = placeGets own room start len reduced p x at
-targetGets own room Missing p x at = Not Fails at
+targetGets own room Missing p x at = Not (Fails WithoutArray) at
 targetGets own room Unknown p x at = Not Stuck at
 
 -- ---- 38, 42 and 39

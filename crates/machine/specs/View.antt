@@ -6,6 +6,7 @@ use Rattle.lists.specs.Tab.{tab}
 use Rattle.model.specs.State.{Value, Loop, State, position}
 use Rattle.model.specs.Step.{End as ModelEnd}
 use Rattle.model.specs.Step.End.{done, assertFalse, assumeFalse, failed, wantOfCells, outOfSteps, choiceNotAllowed, noChoiceLeft, listFull}
+use Rattle.evaluators.specs.Reasons.{reasonOf}
 use Rattle.prepared.specs.declared.Frame.{Frame}
 use Rattle.prepared.specs.View.{varsOf, arraysOf}
 use Rattle.prepared.specs.Own.{ownVars}
@@ -13,12 +14,12 @@ use Rattle.machine.specs.declared.Machine.{Machine}
 use Rattle.machine.specs.declared.End.{End}
 use Rattle.machine.specs.declared.End.the-variants as Code
 
--- ---- the ends (rule 2.29)
+-- ---- the ends (rule 2.29), a failure with its reason (rule 2.37)
 abbrev pub endOf : End → ModelEnd
 endOf Code.Done = done
 endOf Code.AssertFalse = assertFalse
 endOf Code.AssumeFalse = assumeFalse
-endOf Code.Fail = failed
+endOf (Code.Fail why) = failed (reasonOf why)
 endOf Code.WantOfCells = wantOfCells
 endOf Code.OutOfSteps = outOfSteps
 endOf Code.ChoiceNotAllowed = choiceNotAllowed

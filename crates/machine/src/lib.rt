@@ -9,13 +9,14 @@ pub mod values; // values.rt: row 33
 pub mod writes; // writes.rt: rows 34 and 40
 
 use evaluators::answers::Failure;
+use evaluators::answers::Reason;
 
-// The ends of a run (rule 2.29); list full is the choice writer's alone.
+// The ends of a run (rule 2.29), a failure with its reason; list full is the choice writer's alone.
 pub enum End {
     Done,
     AssertFalse,
     AssumeFalse,
-    Fail,
+    Fail(Reason),
     WantOfCells,
     OutOfSteps,
     ChoiceNotAllowed,

@@ -6,7 +6,7 @@ use crate::values::lost;
 use evaluators::answers::Answer;
 use evaluators::answers::Failure;
 use evaluators::answers::choice_in;
-use evaluators::answers::computed;
+use evaluators::answers::next_start;
 use prepared::own::ROWS;
 use prepared::places::class_in;
 use lists::Found;
@@ -160,7 +160,7 @@ pub fn repeated<'a>(
     let i = depth as usize;
     let row = loop_rows[i];
     let end = ends[i];
-    let x = computed(false, starts[i], 1, at);
+    let x = next_start(starts[i], at);
     let Answer::Uint(from, next) = x else {
         return lost(x);
     };

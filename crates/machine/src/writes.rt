@@ -5,6 +5,7 @@ use crate::arrays::size_for;
 use crate::values::lost;
 use evaluators::answers::Answer;
 use evaluators::answers::Failure;
+use evaluators::answers::Reason;
 use evaluators::answers::choice_in;
 use evaluators::arrays::Target;
 use evaluators::arrays::pointed;
@@ -42,7 +43,7 @@ fn place_gets(own: &[u32; 5256], room: usize, start: u32, len: u32, reduced: boo
     ensures { λ r. ⌜ r ≡ placeGets (now (own .entry)) room start len reduced p v at ⌝ }
 {
     if len <= p {
-        return Worked::Not(Failure::Fails, at);
+        return Worked::Not(Failure::Fails(Reason::PastLength), at);
     }
     cell_gets(room, start, size_for(own, len, reduced), p, v, at)
 }
@@ -52,7 +53,7 @@ fn tracked_gets(own: &[u32; 5256], room: usize, start: u32, len: u32, p: u32, v:
     ensures { λ r. ⌜ r ≡ trackedGets (now (own .entry)) room start len p v at ⌝ }
 {
     if len <= p {
-        return Worked::Not(Failure::Fails, at);
+        return Worked::Not(Failure::Fails(Reason::PastLength), at);
     }
     if is_tracked(own, p) {
         return cell_gets(room, start, class_in(own, len), class_in(own, p), v, at);
@@ -78,7 +79,7 @@ pub fn target_gets(own: &[u32; 5256], room: usize, x: Target, p: u32, v: u32, at
 {
     match x {
         Target::Array(start, len, reduced) => place_gets(own, room, start, len, reduced, p, v, at),
-        Target::Missing => Worked::Not(Failure::Fails, at),
+        Target::Missing => Worked::Not(Failure::Fails(Reason::WithoutArray), at),
         Target::Unknown => Worked::Not(Failure::Stuck, at),
     }
 }
@@ -95,7 +96,7 @@ fn reduced_gets(own: &[u32; 5256], list: &[u32], room: usize, x: Target, p: u32,
             }
             place_gets(own, room, start, len, false, p, v, at)
         }
-        Target::Missing => Worked::Not(Failure::Fails, at),
+        Target::Missing => Worked::Not(Failure::Fails(Reason::WithoutArray), at),
         Target::Unknown => Worked::Not(Failure::Stuck, at),
     }
 }

@@ -18,12 +18,13 @@ use Rattle.model.specs.Table.Ty.{bool, uint, pointer}
 use Rattle.model.specs.Table.Node.{variable, uintConstant, boolConstant, cell, plus, minus, less, atMost, equal, conditional, valid, classVariable}
 use Rattle.model.specs.Table.Node.{reducedCell, reducedValid, noNode}
 use Rattle.model.specs.Table.Row.{skip, assign, store, assert, assume, array, loop, loopEnd, reducedStore, reducedArray, classLoop, noRow}
-use Rattle.model.specs.Work.{Out, Work, _>>=_, choose, fail, give, next, wrong}
+use Rattle.model.specs.Work.{Reason, Out, Work, _>>=_, choose, fail, give, next, wrong}
+use Rattle.model.specs.Work.Reason.{sumTooLarge, counterTooLarge}
 use Rattle.model.specs.Work.Out.{gives, fails, badChoice, noChoice, stuck}
 use Rattle.model.specs.State.{Array, Loop, MachineKind, Position, State, Value, classed, formOf, fresh, mostArrays, position, startOf}
 use Rattle.model.specs.State.MachineKind.{reduced}
 use Rattle.model.specs.State.Value.{Truth, Uint, Class, Pointer}
-use Rattle.model.specs.Eval.{Of, Ptr, Contents, add, arrayOf, asClass, bools, cellOf, compare, eval, evalF, indexOf, isValid, keeps, load, ofType}
+use Rattle.model.specs.Eval.{Of, Ptr, Contents, add, sumOr, arrayOf, asClass, bools, cellOf, compare, eval, evalF, indexOf, isValid, keeps, load, ofType}
 use Rattle.model.specs.Eval.{present, reducedLoad, rule, sizeOf, contentsOf, subtract, sumOrDifference, uints, cellsLaid, value, variableOf}
 use Rattle.model.specs.Step.{End, Move, addArray, after, enter, laidNext, loopAt, newArray, node, past, pastEnd, put, reducedWrite}
 use Rattle.model.specs.Step.{finished, goTo, repeatLoop, rowRule, run, setVar, step, withArray, withHere, withLoops, withMemory, withVar, write}
@@ -41,7 +42,7 @@ use Rattle.model.proofs.SafeStep.{MoveOk, going, loopRows, safe-step}
 -- a value that is given has the property, and the choices left are numbers
 abbrev pub Given : {A : Type 0} → (A → Type 0) → Out A → Type 0
 Given P (gives a left) = P a × Numbers left
-Given P (fails left) = Unit {0}
+Given P (fails why left) = Unit {0}
 Given P badChoice = Unit {0}
 Given P noChoice = Unit {0}
 Given P stuck = Unit {0}
@@ -52,7 +53,7 @@ pub record Keeps {A : Type 0} (P : A → Type 0) (w : Work A) : Type 0 where
 keeps-give : {A : Type 0} {P : A → Type 0} {a : A} → P a → Keeps P (give a)
 keeps-give h = record { kept = λ cs n. (h, n) }
 
-keeps-fail : {A : Type 0} {P : A → Type 0} → Keeps P (fail {A = A})
+keeps-fail : {A : Type 0} {P : A → Type 0} {why : Reason} → Keeps P (fail {A = A} why)
 keeps-fail = record { kept = λ cs n. tt }
 
 keeps-wrong : {A : Type 0} {P : A → Type 0} → Keeps P (wrong {A = A})
@@ -67,7 +68,7 @@ keeps-bind {A} {B} {P} {Q} {w} {k} x y = record { kept = λ cs n. go (w cs) (x .
   where
     go : (o : Out A) → Given P o → Given Q (next o k)
     go (gives a left) h = y a (h .0) .kept left (h .1)
-    go (fails left) h = tt
+    go (fails why left) h = tt
     go badChoice h = tt
     go noChoice h = tt
     go stuck h = tt
@@ -96,7 +97,7 @@ keeps-any {A} {P} {w} x = record { kept = λ cs n. go (w cs) (x .kept cs n) }
   where
     go : (o : Out A) → Given P o → Given Any o
     go (gives a left) h = (tt, h .1)
-    go (fails left) h = tt
+    go (fails why left) h = tt
     go badChoice h = tt
     go noChoice h = tt
     go stuck h = tt
@@ -137,8 +138,8 @@ any-bools bool x = x
 any-bools uint x = keeps-wrong
 any-bools pointer x = keeps-wrong
 
-any-add : (x y : ℕ) → Keeps Any (add x y)
-any-add x y = keeps-if (leb (x + y) most) (λ _. keeps-give tt) (λ _. keeps-fail)
+any-add : (why : Reason) (x y : ℕ) → Keeps Any (sumOr why x y)
+any-add why x y = keeps-if (leb (x + y) most) (λ _. keeps-give tt) (λ _. keeps-fail)
 
 any-subtract : (x y : ℕ) → Keeps Any (subtract x y)
 any-subtract x y = keeps-if (leb y x) (λ _. keeps-give tt) (λ _. keeps-fail)
@@ -184,7 +185,7 @@ module _ (ps : List ℕ) (s : Contents) where
   any-rule w uintConstant a b c ih = any-uints w (keeps-give tt)
   any-rule w boolConstant a b c ih = any-bools w (keeps-give tt)
   any-rule w cell a b c ih = any-uints w (any-bind (ih pointer a) (any-load ps (s .arrays) (s .cells)))
-  any-rule w plus a b c ih = any-sum add any-add w (ih w a) (ih uint b)
+  any-rule w plus a b c ih = any-sum add (any-add sumTooLarge) w (ih w a) (ih uint b)
   any-rule w minus a b c ih = any-sum subtract any-subtract w (ih w a) (ih uint b)
   any-rule w less a b c ih = any-bools w (any-compare ltb (ih uint a) (ih uint b))
   any-rule w atMost a b c ih = any-bools w (any-compare leb (ih uint a) (ih uint b))
@@ -312,7 +313,7 @@ module _ (ps : List ℕ) (m : MachineKind) (t : Table) where
     keeps-repeat [] e g = keeps-wrong
     keeps-repeat (l ∷ ls) e g =
         let c : Chain t (l .row ∷ loopRows ls) = subst (Chain t) (sym e) (chain t (s .here .row) (omega arith)) in
-        keeps-bind (any-add (l .start) 1)
+        keeps-bind (any-add counterTooLarge (l .start) 1)
         (λ x _. keeps-loop (withLoops s ls) (regular-here s R (position _ ls) (g .1)) (l .row) (rowKind (rowAt t (l .row) .kind))
             (rows-fit m t A (l .row) (c .0)) x
             (l .end) (keeps-give tt))
@@ -369,7 +370,7 @@ module _ (ps : List ℕ) (m : MachineKind) (t : Table) where
           → EndsRegular ps m t (after n s cs o (run ps t k (suc n)))
       follow (gives (to s′) cs′) u v ih = ih s′ (u .0) (v .0) cs′ (v .1)
       follow (gives (stop e) cs′) u v ih = R
-      follow (fails cs′) u v ih = R
+      follow (fails why cs′) u v ih = R
       follow badChoice u v ih = R
       follow noChoice u v ih = R
       follow stuck u v ih = tt

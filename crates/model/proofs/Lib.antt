@@ -26,3 +26,5 @@ pub mod MatchRun
 -- the choice writer and demand 3
 pub mod WriterLaws
 pub mod Demand3Proof
+-- which reasons a node and a row can have
+pub mod ReasonLaws

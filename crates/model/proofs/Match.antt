@@ -5,17 +5,17 @@ use Prim.Native.Nat.{ℕ}
 use mathlib.Core.Bool.{Bool, true, false}
 use mathlib.Core.List.{List, [], _∷_, _++_, append-assoc, append-nil}
 use Rattle.lists.specs.If.{if_then_else_}
-use Rattle.model.specs.Work.{Out, Work, _>>=_, choose, fail, give, next, wrong}
+use Rattle.model.specs.Work.{Reason, Out, Work, _>>=_, choose, fail, give, next, wrong}
 use Rattle.model.specs.Work.Out.{gives, fails, badChoice, noChoice, stuck}
 use Rattle.model.specs.State.{MachineKind}
 use Rattle.model.specs.State.MachineKind.{plain, reduced}
 use Rattle.model.specs.Writer.{given}
 
--- the first comes to o; the second, r, handed the numbers xs, comes to the like and leaves what stands after them. Where the first has no
--- choice left, the second has none if it is handed no more
+-- the first comes to o; the second, r, handed the numbers xs, comes to the like, a failure with the same reason, and leaves what stands
+-- after them. Where the first has no choice left, the second has none if it is handed no more
 pub data Alike {A B : Type 0} (S : A → B → Type 0) (r : Work B) (xs : List ℕ) : Out A → Type 0 where
   both-give : {a : A} {b : B} {cs : List ℕ} → S a b → ((ds : List ℕ) → r (xs ++ ds) ≡ gives b ds) → Alike S r xs (gives a cs)
-  both-fail : {cs : List ℕ} → ((ds : List ℕ) → r (xs ++ ds) ≡ fails ds) → Alike S r xs (fails cs)
+  both-fail : {why : Reason} {cs : List ℕ} → ((ds : List ℕ) → r (xs ++ ds) ≡ fails why ds) → Alike S r xs (fails why cs)
   both-bad : ((ds : List ℕ) → r (xs ++ ds) ≡ badChoice) → Alike S r xs badChoice
   both-none : r xs ≡ noChoice → Alike S r xs noChoice
   both-stuck : ((ds : List ℕ) → r (xs ++ ds) ≡ stuck) → Alike S r xs stuck
@@ -27,7 +27,7 @@ Plainly reduced cs = ⊥
 
 abbrev pub left : {A : Type 0} → Out A → List ℕ
 left (gives a cs) = cs
-left (fails cs) = []
+left (fails why cs) = []
 left badChoice = []
 left noChoice = []
 left stuck = []
@@ -44,7 +44,7 @@ all-append F (x ∷ xs) ys h k = (h .0, all-append F xs ys (h .1) k)
 -- the numbers handed over fit, and so do the choices left to the first
 abbrev pub Fitting : {A : Type 0} → (ℕ → Type 0) → List ℕ → Out A → Type 0
 Fitting F xs (gives a cs) = All F xs × All F cs
-Fitting F xs (fails cs) = All F xs
+Fitting F xs (fails why cs) = All F xs
 Fitting F xs badChoice = All F xs
 Fitting F xs noChoice = All F xs
 Fitting F xs stuck = Unit {0}
@@ -99,7 +99,8 @@ module _ {m : MachineKind} {F : ℕ → Type 0} {A B : Type 0} {S : A → B → 
   pub matches-give : {a : A} {b : B} → S a b → Matches m F S (give a) (give b) []
   matches-give s = record { each = λ cs q. record { numbers = []; alike = both-give s (λ ds. refl); written = λ h. (refl, h); fitting = (tt, q) } }
 
-  pub matches-fail : Matches m F S (fail {A = A}) (fail {A = B}) []
+  -- with one reason
+  pub matches-fail : {why : Reason} → Matches m F S (fail {A = A} why) (fail {A = B} why) []
   matches-fail = record { each = λ cs q. record { numbers = []; alike = both-fail (λ ds. refl); written = λ h. (refl, plainly m cs h); fitting = tt } }
 
   -- no end on both sides, whatever the choices
@@ -160,21 +161,21 @@ match-told ok n e k = record {
 after-numbers : {A B : Type 0} {S : A → B → Type 0} {r l : Work B} (xs : List ℕ) {ys : List ℕ} {o : Out A} → ((ds : List ℕ) → r (xs ++ ds) ≡ l ds)
     → Alike S l ys o → Alike S r (xs ++ ys) o
 after-numbers xs {ys} e (both-give s f) = both-give s (λ ds. rw append-assoc (e (ys ++ ds) ∙ f ds))
-after-numbers xs {ys} e (both-fail f) = both-fail (λ ds. rw append-assoc (e (ys ++ ds) ∙ f ds))
+after-numbers xs {ys} e (both-fail {why = why} f) = both-fail {why = why} (λ ds. rw append-assoc (e (ys ++ ds) ∙ f ds))
 after-numbers xs {ys} e (both-bad f) = both-bad (λ ds. rw append-assoc (e (ys ++ ds) ∙ f ds))
 after-numbers xs {ys} e (both-none f) = both-none (e ys ∙ f)
 after-numbers xs {ys} e (both-stuck f) = both-stuck (λ ds. rw append-assoc (e (ys ++ ds) ∙ f ds))
 
 after-fitting : {A : Type 0} (F : ℕ → Type 0) (xs ys : List ℕ) (o : Out A) → All F xs → Fitting F ys o → Fitting F (xs ++ ys) o
 after-fitting F xs ys (gives a cs) h k = (all-append F xs ys h (k .0), k .1)
-after-fitting F xs ys (fails cs) h k = all-append F xs ys h k
+after-fitting F xs ys (fails why cs) h k = all-append F xs ys h k
 after-fitting F xs ys badChoice h k = all-append F xs ys h k
 after-fitting F xs ys noChoice h k = all-append F xs ys h k
 after-fitting F xs ys stuck h k = tt
 
 pub given-none : {A : Type 0} (o : Out A) (k : A → List ℕ) → ((a : A) → k a ≡ []) → given o k ≡ []
 given-none (gives a cs) k h = h a
-given-none (fails cs) k h = refl
+given-none (fails why cs) k h = refl
 given-none badChoice k h = refl
 given-none noChoice k h = refl
 given-none stuck k h = refl

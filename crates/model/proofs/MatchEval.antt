@@ -13,12 +13,13 @@ use Rattle.model.specs.Table.{Node, Table, Ty, markedUint, nodeAt, nodeK
 use Rattle.model.specs.Table.Ty.{bool, uint, pointer}
 use Rattle.model.specs.Table.Node.{variable, uintConstant, boolConstant, cell, plus, minus, less, atMost, equal, conditional, valid, classVariable}
 use Rattle.model.specs.Table.Node.{reducedCell, reducedValid, noNode}
-use Rattle.model.specs.Work.{Work, _>>=_, choose, fail, give}
+use Rattle.model.specs.Work.{Reason, Work, _>>=_, choose, fail, give}
+use Rattle.model.specs.Work.Reason.{sumTooLarge, pastLength}
 use Rattle.model.specs.State.{Array, MachineKind, State, Value, placesIn}
 use Rattle.model.specs.State.MachineKind.{plain, reduced}
 use Rattle.model.specs.State.Value.{Truth, Uint, Class, Pointer}
-use Rattle.model.specs.Eval.{Of, Ptr, Contents, add, asBool, asClass, asPointer, asUint, below, bools, compare, evalF, inClass, indexOf, isValid, keeps}
-use Rattle.model.specs.Eval.{load, ofType, present, ptr, reducedLoad, rule, contentsOf, subtract, sumOrDifference, uints, variableOf}
+use Rattle.model.specs.Eval.{Of, Ptr, Contents, asBool, asClass, asPointer, asUint, below, bools, compare, evalF, inClass, indexOf, isValid, keeps}
+use Rattle.model.specs.Eval.{load, ofType, present, ptr, reducedLoad, rule, contentsOf, add, subtract, sumOr, sumOrDifference, uints, variableOf}
 use Rattle.model.specs.Agree.{SameVariable, arrayAt}
 use Rattle.model.specs.Accepted.{Laid, isReduced}
 use Rattle.model.specs.Writer.{choicesF, choicesRule, given, loadChoices, numberOf}
@@ -107,10 +108,10 @@ module _ {m : MachineKind} {F : ℕ → Type 0} where
   match-ofType uint v h = match-asUint v h
   match-ofType pointer v h = match-asPointer v h
 
-  pub match-add : {t : Table} → Closed F t → (x y : ℕ) → Match m F F (add x y) (add x y) []
-  match-add C x y = go (leb (x + y) most) refl
+  pub match-add : {t : Table} → Closed F t → (why : Reason) (x y : ℕ) → Match m F F (sumOr why x y) (sumOr why x y) []
+  match-add C why x y = go (leb (x + y) most) refl
     where
-      go : (b : Bool) → leb (x + y) most ≡ b → Match m F F (if b then give (x + y) else fail) (if b then give (x + y) else fail) []
+      go : (b : Bool) → leb (x + y) most ≡ b → Match m F F (if b then give (x + y) else fail why) (if b then give (x + y) else fail why) []
       go true e = match-give (C .sum x y (leb-true (x + y) most e))
       go false e = matches-fail
 
@@ -250,7 +251,7 @@ module _ {m : MachineKind} {F : ℕ → Type 0} {ps : List ℕ} {extra : Extra} 
       go false d e e′ = matches-as (λ cs. simp d) (λ cs. simp (A .memory .number, d)) matches-wrong
       go true d false e =
           matches-as (λ cs. simp (d, e)) (λ cs. simp (A .memory .number, d, A .memory .len i (ltb-true i _ d), e))
-              (listed (λ h. simp (d, e) (if-same (if getD ks i false then tracked ps q else true))) matches-fail)
+              (listed (λ h. simp (d, e) (if-same (if getD ks i false then tracked ps q else true))) (matches-fail {why = pastLength}))
       go true d true e =
           matches-as (load-in fs (A .memory .laidFirst) i q d e)
               (load-in ps (A .memory .laidSecond) i q (rw (A .memory .number) d) (rw (A .memory .len i (ltb-true i _ d)) e))
@@ -287,7 +288,7 @@ module _ {m : MachineKind} {F : ℕ → Type 0} {ps : List ℕ} {extra : Extra} 
   match-rule w boolConstant h a b c k ih = match-bools w (match-give tt)
   match-rule w cell h a b c k {ev} ih =
       matches-are (cell-acts fs (contentsOf p) w a b c ev m first-flat) refl (match-uints w (match-bind (ih pointer a) match-load))
-  match-rule w plus h a b c k ih = match-sumOrDifference add (λ x y _. match-add C x y) w (ih w a) (ih uint b)
+  match-rule w plus h a b c k ih = match-sumOrDifference add (λ x y _. match-add C sumTooLarge x y) w (ih w a) (ih uint b)
   match-rule w minus h a b c k ih = match-sumOrDifference subtract (match-subtract C) w (ih w a) (ih uint b)
   match-rule w less h a b c k ih = match-bools w (match-compare ltb (ih uint a) (ih uint b))
   match-rule w atMost h a b c k ih = match-bools w (match-compare leb (ih uint a) (ih uint b))

@@ -195,9 +195,9 @@ module _ {m : MachineKind} {F : ℕ → Type 0} (ps : List ℕ) (extra : Extra) 
         written = λ h. absurd (h l);
         fitting = λ z. y .0;
       }
-      follow e o f xs (both-fail {cs = cs′} g) w y ih = record {
+      follow e o f xs (both-fail {why = why} {cs = cs′} g) w y ih = record {
         numbers = xs;
-        alike = end-alike failed (suc n) p r cs′ (ks, N, A) (rw (inside-first p false e, f)) (λ ds. rw (inside-second A false e, g ds));
+        alike = end-alike (failed why) (suc n) p r cs′ (ks, N, A) (rw (inside-first p false e, f)) (λ ds. rw (inside-second A false e, g ds));
         written = stopped o f e refl xs w;
         fitting = λ z. y;
       }

@@ -15,6 +15,7 @@ use Rattle.model.specs.Table.{Row, Table, Ty, markedPointer, markedUint,
 use Rattle.model.specs.Table.Ty.{bool, uint, pointer}
 use Rattle.model.specs.Table.Row.{skip, assign, store, assert, assume, array, loop, loopEnd, reducedStore, reducedArray, classLoop, noRow}
 use Rattle.model.specs.Work.{Work, _>>=_, choose, fail, give, wrong}
+use Rattle.model.specs.Work.Reason.{pastLength, counterTooLarge}
 use Rattle.model.specs.Work.Out.{gives}
 use Rattle.model.specs.State.{Array, Loop, MachineKind, Position, State, Value, position, mostArrays, formOf, placesIn}
 use Rattle.model.specs.State.MachineKind.{plain, reduced}
@@ -72,7 +73,7 @@ abbrev placed : List ℕ → Bool → ℕ → Work ℕ
 placed ps b q = if b then choose (λ v. eqb (class ps v) (class ps q)) else give q
 
 abbrev stored : List ℕ → State → Array → ℕ → ℕ → Work Move
-stored ps s a x v = if ltb v (a .len) then (if keeps ps a v then put ps s a (indexOf ps a v) x else give (to (past s))) else fail
+stored ps s a x v = if ltb v (a .len) then (if keeps ps a v then put ps s a (indexOf ps a v) x else give (to (past s))) else fail pastLength
 
 -- a row that is no loop
 no-store : (ps : List ℕ) (t : Table) (s : State) (n x y : ℕ) (out : Work ℕ) (m : MachineKind) → loopAt ps t s n (storeIn m) x y out ≡ wrong
@@ -225,7 +226,7 @@ module _ {m : MachineKind} {F : ℕ → Type 0} (ps : List ℕ) (extra : Extra) 
         → Matches m F (Moves extra (L ks)) (repeatLoop fs v p ls) (repeatLoop ps u r ls) (repeatChoices ps t ks p ls)
     match-repeat A [] k = matches-wrong
     match-repeat {p} {r} A (l ∷ ls) k =
-        match-bind (match-add (R .closed) (l .start) 1)
+        match-bind (match-add (R .closed) counterTooLarge (l .start) 1)
         (λ x fx. rw (R .first .kind (l .row), R .second .kind (l .row))
         (match-loop (linked-here A (ap (λ (h : Position). position (h .row) ls) (A .here)) (k .2)) (l .row) (rowKind (rowAt t (l .row) .kind))
             (R .kinds .row (l .row)) x (l .end) fx (k .1)
@@ -260,7 +261,7 @@ module _ {m : MachineKind} {F : ℕ → Type 0} (ps : List ℕ) (extra : Extra) 
         go : (e : Bool) → ltb q (arrayAt (p .arrays) i .len) ≡ e → (f : Bool) → keeps fs (arrayAt (p .arrays) i) q ≡ f → (g : Bool)
             → keeps ps (arrayAt (r .arrays) i) q ≡ g
             → Matches m F (Moves extra (L ks)) (stored fs p (arrayAt (p .arrays) i) y q) (stored ps r (arrayAt (r .arrays) i) y q) []
-        go false e f f′ g g′ = matches-as (λ cs. simp e) (λ cs. simp (M .len i h, e)) matches-fail
+        go false e f f′ g g′ = matches-as (λ cs. simp e) (λ cs. simp (M .len i h, e)) (matches-fail {why = pastLength})
         go true e true f true g =
             matches-as (λ cs. simp (e, f) (first-put (ltb-true q _ e) f cs)) (λ cs. simp (inside-second e, g) (second-put (ltb-true q _ e) g cs))
             (matches-give (both-to (linked-memory A ks (memory-write M i q h (ltb-true q _ e) y g) (set-fits F (p .cells) _ y 0 (A .fitCells) fy))))

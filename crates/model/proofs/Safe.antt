@@ -14,12 +14,13 @@ use Rattle.model.specs.Table.{Node, Table, Ty, nodeAt, nodeKind, typeAt,
 use Rattle.model.specs.Table.Ty.{bool, uint, pointer}
 use Rattle.model.specs.Table.Node.{variable, uintConstant, boolConstant, cell, plus, minus, less, atMost, equal, conditional, valid, classVariable}
 use Rattle.model.specs.Table.Node.{reducedCell, reducedValid, noNode}
-use Rattle.model.specs.Work.{Out, Work, _>>=_, choose, fail, give, next}
+use Rattle.model.specs.Work.{Reason, Out, Work, _>>=_, choose, fail, give, next}
+use Rattle.model.specs.Work.Reason.{sumTooLarge}
 use Rattle.model.specs.Work.Out.{gives, fails, badChoice, noChoice, stuck}
 use Rattle.model.specs.State.{MachineKind, State, Value, classed}
 use Rattle.model.specs.State.MachineKind.{plain, reduced}
 use Rattle.model.specs.State.Value.{Uint}
-use Rattle.model.specs.Eval.{Of, Ptr, add, arrayOf, asClass, below, bools, cellOf, compare, eval, evalF, isValid, keeps, load, ofType, present}
+use Rattle.model.specs.Eval.{Of, Ptr, add, sumOr, arrayOf, asClass, below, bools, cellOf, compare, eval, evalF, isValid, keeps, load, ofType, present}
 use Rattle.model.specs.Eval.{reducedLoad, rule, sizeOf, contentsOf, subtract, sumOrDifference, uints, value, variableOf}
 use Rattle.model.specs.Agree.{arrayAt}
 use Rattle.model.specs.Accepted.{Accepted, HasType, Holds, Laid, nodeType, tyNumber}
@@ -55,7 +56,7 @@ leaves-plain {left = left} x = sym (x .split ∙ ap (λ l. l ++ left) (x .plainN
 -- not stuck, the plain machine taking no choice, and a value that it gives has the property
 abbrev pub Held : {A : Type 0} → MachineKind → (A → Type 0) → List ℕ → Out A → Type 0
 Held m P cs (gives a left) = P a × Leaves m cs left
-Held m P cs (fails left) = Leaves m cs left
+Held m P cs (fails why left) = Leaves m cs left
 Held m P cs badChoice = TakesChoices m
 Held m P cs noChoice = TakesChoices m
 Held m P cs stuck = ⊥
@@ -66,7 +67,7 @@ pub record Safe {A : Type 0} (m : MachineKind) (P : A → Type 0) (w : Work A) :
 pub safe-give : {m : MachineKind} {A : Type 0} {P : A → Type 0} {a : A} → P a → Safe m P (give a)
 safe-give {m} h = record { held = λ cs. (h, leaves-all m cs) }
 
-pub safe-fail : {m : MachineKind} {A : Type 0} {P : A → Type 0} → Safe m P (fail {A = A})
+pub safe-fail : {m : MachineKind} {A : Type 0} {P : A → Type 0} {why : Reason} → Safe m P (fail {A = A} why)
 safe-fail {m} = record { held = λ cs. leaves-all m cs }
 
 pub safe-if : {m : MachineKind} {A : Type 0} {P : A → Type 0} (b : Bool) {v w : Work A} → (b ≡ true → Safe m P v) → (b ≡ false → Safe m P w)
@@ -80,14 +81,14 @@ safe-bind {m} {A} {B} {P} {Q} {w} {k} x y = record { held = λ cs. go cs (w cs) 
   where
     then-held : (cs left : List ℕ) → Leaves m cs left → (o : Out B) → Held m Q left o → Held m Q cs o
     then-held cs left l (gives b ds) h = (h .0, leaves-then m cs left ds l (h .1))
-    then-held cs left l (fails ds) h = leaves-then m cs left ds l h
+    then-held cs left l (fails why ds) h = leaves-then m cs left ds l h
     then-held cs left l badChoice h = h
     then-held cs left l noChoice h = h
     then-held cs left l stuck h = h
 
     go : (cs : List ℕ) (o : Out A) → Held m P cs o → Held m Q cs (next o k)
     go cs (gives a left) h = then-held cs left (h .1) (k a left) (y a (h .0) .held left)
-    go cs (fails left) h = h
+    go cs (fails why left) h = h
     go cs badChoice h = h
     go cs noChoice h = h
     go cs stuck h = h
@@ -97,7 +98,7 @@ safe-any {m} {A} {P} {w} x = record { held = λ cs. go cs (w cs) (x .held cs) }
   where
     go : (cs : List ℕ) (o : Out A) → Held m P cs o → Held m (λ a. Unit {0}) cs o
     go cs (gives a left) h = (tt, h .1)
-    go cs (fails left) h = h
+    go cs (fails why left) h = h
     go cs badChoice h = h
     go cs noChoice h = h
     go cs stuck h = h
@@ -160,8 +161,8 @@ module _ {m : MachineKind} where
   safe-compare : (test : ℕ → ℕ → Bool) {x y : Work ℕ} → Safe m (λ x. Unit {0}) x → Safe m (λ x. Unit {0}) y → Safe m (λ x. Unit {0}) (compare test x y)
   safe-compare test x y = safe-bind x (λ a _. safe-bind y (λ b _. safe-give tt))
 
-  pub safe-add : (x y : ℕ) → Safe m (λ z. Unit {0}) (add x y)
-  safe-add x y = safe-if (leb (x + y) most) (λ e. safe-give tt) (λ e. safe-fail)
+  pub safe-add : (why : Reason) (x y : ℕ) → Safe m (λ z. Unit {0}) (sumOr why x y)
+  safe-add why x y = safe-if (leb (x + y) most) (λ e. safe-give tt) (λ e. safe-fail)
 
   safe-subtract : (x y : ℕ) → Safe m (λ z. Unit {0}) (subtract x y)
   safe-subtract x y = safe-if (leb y x) (λ e. safe-give tt) (λ e. safe-fail)
@@ -208,7 +209,7 @@ module _ (ps : List ℕ) (m : MachineKind) (t : Table) (s : State) (S : Sound ps
     safe-rule w uintConstant a b c n f e ev ih = safe-uints _ w (f ∙ e) (safe-give tt)
     safe-rule w boolConstant a b c n f e ev ih = safe-bools _ w (f ∙ e) (safe-give tt)
     safe-rule w cell a b c n f e ev ih = safe-uints _ w (f .2 ∙ e) (safe-bind (ih pointer a (f .0) (f .1)) (safe-load (f .3)))
-    safe-rule w plus a b c n f e ev ih = safe-sum _ add safe-add w (subst Moving e (f .3)) (ih w a (f .0) (f .2 ∙ e)) (ih uint b (f .1) (f .4))
+    safe-rule w plus a b c n f e ev ih = safe-sum _ add (safe-add sumTooLarge) w (subst Moving e (f .3)) (ih w a (f .0) (f .2 ∙ e)) (ih uint b (f .1) (f .4))
     safe-rule w minus a b c n f e ev ih = safe-sum _ subtract safe-subtract w (subst Moving e (f .3)) (ih w a (f .0) (f .2 ∙ e)) (ih uint b (f .1) (f .4))
     safe-rule w less a b c n f e ev ih = safe-bools _ w (f .4 ∙ e) (safe-compare ltb (ih uint a (f .0) (f .2)) (ih uint b (f .1) (f .3)))
     safe-rule w atMost a b c n f e ev ih = safe-bools _ w (f .4 ∙ e) (safe-compare leb (ih uint a (f .0) (f .2)) (ih uint b (f .1) (f .3)))

@@ -9,7 +9,7 @@ use lib.ListN.{length, length-append}
 use lib.Dec.{leb}
 use borrow.Author.Tests.{leb-true, leb-false, le-leb}
 use Rattle.model.specs.Table.{Table}
-use Rattle.model.specs.Work.{Out}
+use Rattle.model.specs.Work.{Reason, Out}
 use Rattle.model.specs.Work.Out.{gives, fails, badChoice, noChoice, stuck}
 use Rattle.model.specs.State.{State}
 use Rattle.model.specs.State.MachineKind.{plain}
@@ -34,12 +34,12 @@ numbers-last e n s xs = ap (ended e n s) (sym (append-nil (xs ++ []) ∙ append-
 data Plain (t : Table) : Out Move → Type 0 where
   goes : {s : State} → CanHave [] plain t s → Plain t (gives (to s) [])
   stops : {e : End} → Plain t (gives (stop e) [])
-  failed : Plain t (fails [])
+  failed : {why : Reason} → Plain t (fails why [])
 
 plain-out : (t : Table) (o : Out Move) → Held plain (MoveOk plain (CanHave [] plain t)) [] o → Plain t o
 plain-out t (gives (to s) cs) h = subst (λ cs. Plain t (gives (to s) cs)) (sym (leaves-plain (h .1))) (goes (h .0))
 plain-out t (gives (stop e) cs) h = subst (λ cs. Plain t (gives (stop e) cs)) (sym (leaves-plain (h .1))) stops
-plain-out t (fails cs) h = subst (λ cs. Plain t (fails cs)) (sym (leaves-plain h)) failed
+plain-out t (fails why cs) h = subst (λ cs. Plain t (fails why cs)) (sym (leaves-plain h)) failed
 plain-out t badChoice h = absurd h
 plain-out t noChoice h = absurd h
 plain-out t stuck h = absurd h

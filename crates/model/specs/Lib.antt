@@ -11,3 +11,4 @@ pub mod Agree
 pub mod Writer
 pub mod Accepted
 pub mod Demand3
+pub mod Reasons

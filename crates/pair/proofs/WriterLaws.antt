@@ -28,6 +28,7 @@ use Rattle.model.proofs.Demand3Proof.{demand-3}
 use types.Run.{OneOf, miss}
 use denote.Enum.Declared.{tagOf}
 use Rattle.machine.specs.View.{endOf, stateOf}
+use Rattle.evaluators.specs.Reasons.{reasonOf}
 use Rattle.machine.specs.declared.End.{End as CodeEnd}
 use Rattle.machine.specs.declared.End.the-variants.{Done, AssertFalse, AssumeFalse, Fail, WantOfCells, OutOfSteps, ChoiceNotAllowed, NoChoiceLeft, ListFull}
 use Rattle.machine.proofs.End.{the-type as code-end}
@@ -143,7 +144,7 @@ abbrev isFull : End → Bool
 isFull done = false
 isFull assertFalse = false
 isFull assumeFalse = false
-isFull failed = false
+isFull (failed why) = false
 isFull wantOfCells = false
 isFull outOfSteps = false
 isFull choiceNotAllowed = false
@@ -154,7 +155,7 @@ full-is : (e : End) → isFull e ≡ true → e ≡ listFull
 full-is done h = absurd (false≢true h)
 full-is assertFalse h = absurd (false≢true h)
 full-is assumeFalse h = absurd (false≢true h)
-full-is failed h = absurd (false≢true h)
+full-is (failed why) h = absurd (false≢true h)
 full-is wantOfCells h = absurd (false≢true h)
 full-is outOfSteps h = absurd (false≢true h)
 full-is choiceNotAllowed h = absurd (false≢true h)
@@ -177,7 +178,7 @@ module _ {t : List ℕ} {limit : ℕ} {ran : Ran} (r : Line) where
       other Done h e = differs done refl e
       other AssertFalse h e = differs assertFalse refl e
       other AssumeFalse h e = differs assumeFalse refl e
-      other Fail h e = differs failed refl e
+      other (Fail why) h e = differs (failed (reasonOf why)) refl e
       other WantOfCells h e = differs wantOfCells refl e
       other OutOfSteps h e = differs outOfSteps refl e
       other ChoiceNotAllowed h e = differs choiceNotAllowed refl e

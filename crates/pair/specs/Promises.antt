@@ -14,7 +14,7 @@ use Rattle.pair.specs.Pairs.{tableSaid}
 use Rattle.pair.specs.Pairs.LineSaid.{line}
 use Rattle.pair.specs.Pairs.PairSaid.{lines}
 
--- both lines have one end, row and steps, and the reduced run used the whole list (rule 10.8)
+-- both lines have one end (with its reason), row and steps, and the reduced run used the whole list (rule 10.8)
 pub record SameLines (ps : List ℕ) (limit : ℕ) (P : List ℕ) : Type 0 where
   pub end : End
   pub row : ℕ

@@ -24,7 +24,7 @@ use Rattle.model.specs.Table.Node.{reducedCell, reducedValid, noNode}
 use Rattle.model.specs.Table.Row.{skip, assign, store, assert, assume, array, loop, loopEnd, reducedStore, reducedArray, classLoop, noRow}
 use Rattle.model.specs.Work.{Work, _>>=_, give, wrong}
 use Rattle.model.specs.State.{MachineKind, Loop, State, placesIn}
-use Rattle.model.specs.Eval.{Contents, contentsOf, Of, add, below, rule, present, evalF, eval}
+use Rattle.model.specs.Eval.{Contents, contentsOf, Of, nextStart, below, rule, present, evalF, eval}
 use Rattle.model.specs.Step.{Move, withLoops, loopAt, repeatLoop, rowRule, stepAt, step}
 use Rattle.model.specs.Writer.{given, choicesRule, choicesF, nodeChoices, loopChoices, repeatChoices, rowChoices, stepChoices}
 use Rattle.model.specs.Accepted.{Accepted, allThere, rowThere}
@@ -278,7 +278,7 @@ module _ (t : List ℕ) (f : Frame) (own : List ℕ) (S : InSorts (tableFor t f)
 
     same-repeat-choices : (ls : List Loop) → repeatChoices ps copy ks s ls ≡ repeatChoices ps table ks s ls
     same-repeat-choices [] = refl
-    same-repeat-choices (l ∷ ls) = ap (given (add (l .start) 1 [])) (fun-ext λ x. same-loop-choices (l .row) x (l .end))
+    same-repeat-choices (l ∷ ls) = ap (given (nextStart (l .start) [])) (fun-ext λ x. same-loop-choices (l .row) x (l .end))
 
     same-row-choices : (n : ℕ) (k : Row) (l : Line) → allThere (rowRoles k) decls nodes l ≡ true
         → rowChoices ps copy ks s n k (l .a) (l .b) (l .c) ≡ rowChoices ps table ks s n k (l .a) (l .b) (l .c)
@@ -321,7 +321,7 @@ module _ (t : List ℕ) (f : Frame) (own : List ℕ) (S : InSorts (tableFor t f)
     same-repeat (l ∷ ls) =
         let z = withLoops s ls in
         let out = give (suc (s .here .row)) in
-        ap (λ k. add (l .start) 1 >>= k)
+        ap (λ k. nextStart (l .start) >>= k)
         (fun-ext λ x. ap (λ (m : Line). loopAt ps copy z (l .row) (rowKind (m .kind)) x (l .end) out) (same-line (l .row))
             ∙ same-loop z (l .row) (rowKind (rowAt table (l .row) .kind)) x (l .end) out)
 

@@ -20,19 +20,20 @@ use Rattle.model.specs.Table.Ty.{uint, pointer}
 use Rattle.model.specs.Table.Row.{store, loop, loopEnd}
 use Rattle.model.specs.Work.{Out, Work, give}
 use Rattle.model.specs.State.{State}
-use Rattle.model.specs.Eval.{Of, Ptr, ptr, add, arrayOf}
+use Rattle.model.specs.Eval.{Of, Ptr, ptr, nextStart, arrayOf}
 use Rattle.model.specs.Step.{Move, write, loopAt, pastEnd, node}
 use Rattle.model.specs.Writer.{given, heldReduced, nodeChoices, storeChoices, loopChoices, repeatChoices, rowChoices}
 use Rattle.prepared.specs.Own.{placesOf, ownTable}
 use Rattle.evaluators.proofs.answers.Answer.{the-type as answer}
 use Rattle.evaluators.specs.declared.answers.Failure.the-variants.{Fails, Stuck}
+use Rattle.evaluators.specs.declared.answers.Reason.the-variants.{PastLength}
 use Rattle.evaluators.specs.declared.answers.Answer.{Answer}
 use Rattle.evaluators.specs.declared.answers.Answer.the-variants.{Uint as AUint, Pointer as APointer}
 use Rattle.evaluators.specs.declared.arrays.Target.{Target}
 use Rattle.evaluators.specs.declared.arrays.Target.the-variants.{Array as To, Missing, Unknown}
 use Rattle.evaluators.specs.CodeAnswers.{Answers, Says, operand}
 use Rattle.prepared.specs.View.{arraysOf}
-use Rattle.evaluators.specs.CodeLeaves.{arith, Points}
+use Rattle.evaluators.specs.CodeLeaves.{Points}
 use Rattle.machine.specs.declared.Machine.{Machine}
 use Rattle.machine.specs.declared.Move.the-variants.{Writes, Enters}
 use Rattle.machine.specs.declared.Worked.{Worked}
@@ -48,7 +49,7 @@ use Rattle.recording.specs.CodePushes.{Pushed, pushed, push, pushAll}
 use Rattle.recording.specs.CodeRecords.{Plain, heldOf, pairOf, ReachedBy, Records, Recorded}
 use Rattle.recording.specs.CodeMoves.{ReachedMove, RowRecords}
 use Rattle.recording.proofs.PushLaws.{push-one, push-none, push-append}
-use Rattle.recording.proofs.RecordLaws.{Gave, Lost, gave-uint, gave-pointer, lost-uint, lost-pointer, lost-given, says-arith}
+use Rattle.recording.proofs.RecordLaws.{Gave, Lost, gave-uint, gave-pointer, lost-uint, lost-pointer, lost-given, says-next}
 use Rattle.recording.proofs.NumberLaws.{row-numbers, row-operand}
 
 -- ---- the numbers that a row has of its own, by what decides whether the reduced run takes a choice there
@@ -89,7 +90,7 @@ module _ (out : List ℕ) (at : ℕ) {p : Pushed} (h : pushed out at ≡ p) wher
   unfolding placeGets ReachedMove ReachedBy
   target-kept own room (To start len reduced) i x = go (ltb i len)
     where
-      go : (b : Bool) → ReachedMove (if b then cellGets room start (sizeFor (placesOf own) len reduced) i x at else Not Fails at) out p
+      go : (b : Bool) → ReachedMove (if b then cellGets room start (sizeFor (placesOf own) len reduced) i x at else Not (Fails PastLength) at) out p
       go true = cell-kept room start (sizeFor (placesOf own) len reduced) i x
       go false = h
   target-kept own room Missing i x = h
@@ -264,7 +265,7 @@ module _ (own : List ℕ) (m : Machine) (cells held : List ℕ) (plain : Plain o
   repeat-nothing e = record { works = repeat-none own [] m cells a b c 0 e; numbers = tt }
 
   -- d loops are open around the innermost, and x is what its start and 1 came to
-  module _ (d : ℕ) (ed : m .«open» ≡ suc d) (x : Answer) (px : Says uint 0 x (arith false (getD (m .starts) d 0) 1)) where
+  module _ (d : ℕ) (ed : m .«open» ≡ suc d) (x : Answer) (px : Says uint 0 x (nextStart (getD (m .starts) d 0))) where
     abbrev row : ℕ
     row = getD (m .«loop_rows») d 0
 
@@ -274,11 +275,10 @@ module _ (own : List ℕ) (m : Machine) (cells held : List ℕ) (plain : Plain o
     abbrev onNext : ℕ → List ℕ
     onNext v = loopChoices (pairOf own) T ks S row v end
 
-    next-start : Records uint (add (getD (m .starts) d 0) 1 []) [] x before (pushed before 0)
-    unfolding arith
-    next-start = says-arith x 0 before false (getD (m .starts) d 0) 1 px
+    next-start : Records uint (nextStart (getD (m .starts) d 0) []) [] x before (pushed before 0)
+    next-start = says-next x 0 before (getD (m .starts) d 0) px
 
-    innermost : given (add (getD (m .starts) d 0) 1 []) onNext ≡ rowChoices (pairOf own) T ks S (m .row) loopEnd a b c
+    innermost : given (nextStart (getD (m .starts) d 0) []) onNext ≡ rowChoices (pairOf own) T ks S (m .row) loopEnd a b c
     unfolding rowChoices
     innermost = ap (repeatChoices (pairOf own) T ks S) (sym (loops-split d (m .«loop_rows») (m .starts) (m .ends)))
         ∙ ap (λ (n : ℕ). repeatChoices (pairOf own) T ks S (loopsOf n (m .«loop_rows») (m .starts) (m .ends))) (sym ed)

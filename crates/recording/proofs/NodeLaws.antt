@@ -46,7 +46,7 @@ use Rattle.recording.proofs.RecordLaws.{says-arith, says-moved, says-va
 nothing-more : {A : Type 0} (xs : List ℕ) (o : Out A) → andThen xs o (λ a. []) ≡ xs
 unfolding andThen
 nothing-more xs (gives a cs) = append-nil xs
-nothing-more xs (fails cs) = append-nil xs
+nothing-more xs (fails why cs) = append-nil xs
 nothing-more xs badChoice = append-nil xs
 nothing-more xs noChoice = append-nil xs
 nothing-more xs stuck = append-nil xs

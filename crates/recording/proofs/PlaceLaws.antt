@@ -12,11 +12,12 @@ use lib.Dec.{ltb, leb}
 use Rattle.lists.specs.If.{if_then_else_}
 use Rattle.model.specs.Table.{Ty}
 use Rattle.model.specs.Table.Ty.{bool, uint, pointer}
-use Rattle.model.specs.Work.{Out, Work, next, _>>=_, give, fail, wrong}
+use Rattle.model.specs.Work.{Reason, Out, Work, next, _>>=_, give, fail, wrong}
+use Rattle.model.specs.Work.Reason.{sumTooLarge, belowZero, counterTooLarge}
 use Rattle.model.specs.Work.Out.{gives, fails, badChoice, noChoice, stuck}
 use Rattle.model.specs.State.{Value, Array}
 use Rattle.model.specs.State.Value.{Truth, Uint, Class, Pointer}
-use Rattle.model.specs.Eval.{Of, ptr, variableOf, ofType, present, arrayOf}
+use Rattle.model.specs.Eval.{Of, ptr, variableOf, ofType, present, arrayOf, nextStart}
 use Rattle.evaluators.specs.CodeAnswers.{failed, outOf, OfType, Answers}
 use Rattle.evaluators.specs.CodeLeaves.{heldFor, arith, movedBy, validIn}
 use Rattle.evaluators.proofs.AnswerLaws.{tested}
@@ -30,7 +31,7 @@ use Rattle.recording.proofs.PushLaws.{push-none}
 -- ---- the choices that are left; cs where nothing says it
 abbrev leftBy : {A : Type 0} → List ℕ → Out A → List ℕ
 leftBy cs (gives a ds) = ds
-leftBy cs (fails ds) = ds
+leftBy cs (fails why ds) = ds
 leftBy cs badChoice = cs
 leftBy cs noChoice = cs
 leftBy cs stuck = cs
@@ -46,8 +47,8 @@ still-by false m k h g = g
 still-give : {A : Type 0} (a : A) → Still (give a)
 still-give a = record { left = λ cs. refl }
 
-still-fail : {A : Type 0} → Still {A = A} fail
-still-fail = record { left = λ cs. refl }
+still-fail : {A : Type 0} (why : Reason) → Still {A = A} (fail why)
+still-fail why = record { left = λ cs. refl }
 
 still-wrong : {A : Type 0} → Still {A = A} wrong
 still-wrong = record { left = λ cs. refl }
@@ -57,7 +58,7 @@ still-then {A} {B} m k h g = record { left = λ cs. go cs (m cs) (h .left cs) }
   where
     go : (cs : List ℕ) (o : Out A) → leftBy cs o ≡ cs → leftBy cs (next o k) ≡ cs
     go cs (gives a ds) e = subst (λ (l : List ℕ). leftBy cs (k a l) ≡ cs) (sym e) (g a .left cs)
-    go cs (fails ds) e = e
+    go cs (fails why ds) e = e
     go cs badChoice e = refl
     go cs noChoice e = refl
     go cs stuck e = refl
@@ -65,8 +66,11 @@ still-then {A} {B} m k h g = record { left = λ cs. go cs (m cs) (h .left cs) }
 -- ---- what the leaves say
 pub still-arith : (m : Bool) (x y : ℕ) → Still (arith m x y)
 unfolding arith
-still-arith false x y = still-by (leb (x + y) 4294967295) _ _ (still-give (x + y)) still-fail
-still-arith true x y = still-by (leb y x) _ _ (still-give (x - y)) still-fail
+still-arith false x y = still-by (leb (x + y) 4294967295) _ _ (still-give (x + y)) (still-fail sumTooLarge)
+still-arith true x y = still-by (leb y x) _ _ (still-give (x - y)) (still-fail belowZero)
+
+pub still-next : (x : ℕ) → Still (nextStart x)
+still-next x = still-by (leb (x + 1) 4294967295) _ _ (still-give (x + 1)) (still-fail counterTooLarge)
 
 pub still-moved : (m : Bool) (r p y : ℕ) → Still (movedBy m r p y)
 unfolding movedBy
@@ -127,7 +131,7 @@ still-place uint m at still (APointer r v i) h out = absurd (h [] .typed)
 still-place pointer m at still (ABool b i) h out = absurd (h [] .typed)
 still-place pointer m at still (AUint v i) h out = absurd (h [] .typed)
 still-place pointer m at still (APointer r v i) h out = ap (pushed out) (same-place i at (left-same pointer m at still (APointer r v i) h))
-still-place w m at still (Not Fails i) h out = ap (pushed out) (same-place i at (left-same w m at still (Not Fails i) h))
+still-place w m at still (Not (Fails why) i) h out = ap (pushed out) (same-place i at (left-same w m at still (Not (Fails why) i) h))
 still-place w m at still (Not BadChoice i) h out = tt
 still-place w m at still (Not NoChoice i) h out = tt
 still-place w m at still (Not Stuck i) h out = tt

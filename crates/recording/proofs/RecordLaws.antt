@@ -18,14 +18,15 @@ use Rattle.lists.proofs.TabLaws.{length-tab, at-tab}
 use Rattle.model.specs.Class.{tracked}
 use Rattle.model.specs.Table.{Ty, marked}
 use Rattle.model.specs.Table.Ty.{bool, uint, pointer}
-use Rattle.model.specs.Work.{Out, Work, next, give, wrong}
+use Rattle.model.specs.Work.{Reason, Out, Work, next, give, wrong}
 use Rattle.model.specs.Work.Out.{gives, fails, badChoice, noChoice, stuck}
 use Rattle.model.specs.State.{Value, Array}
 use Rattle.model.specs.State.Value.{Truth, Uint, Class, Pointer}
-use Rattle.model.specs.Eval.{Of, Ptr, ptr, variableOf, ofType, asUint, present}
+use Rattle.model.specs.Eval.{Of, Ptr, ptr, variableOf, ofType, asUint, nextStart, present}
 use Rattle.model.specs.Writer.{given, numberOf, heldReduced}
 use Rattle.prepared.specs.Own.{declsOf, ownVars, placesOf}
 use Rattle.evaluators.specs.CodeAnswers.{failed, outOf, OfType, Answers, Says, Lent, operand}
+use Rattle.evaluators.specs.Reasons.{reasonOf}
 use Rattle.evaluators.specs.CodeLeaves.{heldFor, HoldsFor, loadOf, arith, movedBy, validIn, testOf}
 use Rattle.evaluators.proofs.AnswerLaws.{said-uint, said-not, failed-next, followed, branch, tested}
 use Rattle.evaluators.proofs.AnswerLaws as values
@@ -39,7 +40,7 @@ use Rattle.recording.specs.CodePushes.{Pushed, pushed, push, pushAll}
 use Rattle.recording.specs.CodeRecords.{heldOf, pairOf, operandNumbers, variableNumbers, cellNumbers, placedAt}
 use Rattle.recording.specs.CodeRecords.{ReachedBy, Reached, Records, VariableRecords}
 use Rattle.recording.proofs.PushLaws.{push-one, push-none, push-append}
-use Rattle.recording.proofs.PlaceLaws.{still-arith, still-moved, still-valid, still-tested, still-held, still-records}
+use Rattle.recording.proofs.PlaceLaws.{still-arith, still-next, still-moved, still-valid, still-tested, still-held, still-records}
 
 -- ---- what decides whether a number is recorded
 pub held-none : (count : ℕ) (held : List ℕ) (to : ℕ) → count < to → false ≡ heldReduced (heldOf count held) to
@@ -74,7 +75,7 @@ stuck-place uint (APointer r v i) out p h = absurd (h .typed)
 stuck-place pointer (ABool b i) out p h = absurd (h .typed)
 stuck-place pointer (AUint v i) out p h = absurd (h .typed)
 stuck-place pointer (APointer r v i) out p h = absurd (unstuck (h .said))
-stuck-place w (Not Fails i) out p h = let z : _≡_ {A = ℕ} 0 1 = cc (h .said) in absurd (omega numbers)
+stuck-place w (Not (Fails why) i) out p h = let z : _≡_ {A = ℕ} 0 1 = cc (h .said) in absurd (omega numbers)
 stuck-place w (Not BadChoice i) out p h = tt
 stuck-place w (Not NoChoice i) out p h = tt
 stuck-place w (Not Stuck i) out p h = tt
@@ -91,7 +92,7 @@ no-number uint count (gives (Uint n) cs) ne = absurd (ne refl)
 no-number pointer count (gives (Uint n) cs) ne = inr refl
 no-number w count (gives (Class k) cs) ne = inl refl
 no-number w count (gives (Pointer r p) cs) ne = inl refl
-no-number w count (fails cs) ne = inl refl
+no-number w count (fails why cs) ne = inl refl
 no-number w count badChoice ne = inl refl
 no-number w count noChoice ne = inl refl
 no-number w count stuck ne = inl refl
@@ -124,17 +125,17 @@ number-is count (gives (Truth b) ds) e = absurd (unstuck e)
 number-is count (gives (Uint n) ds) {v} {cs} e = let q : n ≡ v = cc in ap (λ (k : ℕ). k ∷ []) q
 number-is count (gives (Class k) ds) e = absurd (unstuck e)
 number-is count (gives (Pointer r p) ds) e = absurd (unstuck e)
-number-is count (fails ds) e = let z : _≡_ {A = ℕ} 0 1 = cc in absurd (omega numbers)
+number-is count (fails why ds) e = let z : _≡_ {A = ℕ} 0 1 = cc in absurd (omega numbers)
 number-is count badChoice e = let z : _≡_ {A = ℕ} 0 1 = cc in absurd (omega numbers)
 number-is count noChoice e = let z : _≡_ {A = ℕ} 0 1 = cc in absurd (omega numbers)
 number-is count stuck e = absurd (unstuck e)
 
 -- it does not fail
-never-fails : (vs : List Value) (count a : ℕ) {cs : List ℕ} → fails cs ≡ heldFor vs count a uint [] → ⊥
+never-fails : (vs : List Value) (count a : ℕ) {why : Reason} {cs : List ℕ} → fails why cs ≡ heldFor vs count a uint [] → ⊥
 unfolding heldFor
-never-fails vs count a {cs} = go (ltb a (length vs)) (getD vs a (Uint 0))
+never-fails vs count a {why} {cs} = go (ltb a (length vs)) (getD vs a (Uint 0))
   where
-    go : (b : Bool) (x : Value) → fails cs ≡ next (next ((if_then_else_ {A = Work Value} b (give x) wrong) []) asUint) (present count uint) → ⊥
+    go : (b : Bool) (x : Value) → fails why cs ≡ next (next ((if_then_else_ {A = Work Value} b (give x) wrong) []) asUint) (present count uint) → ⊥
     go true (Truth b) e = let z : _≡_ {A = ℕ} 0 1 = cc in omega numbers
     go true (Uint n) e = let z : _≡_ {A = ℕ} 0 1 = cc in omega numbers
     go true (Class k) e = let z : _≡_ {A = ℕ} 0 1 = cc in omega numbers
@@ -164,7 +165,7 @@ module _ (own ns : List ℕ) (a at : ℕ) {x : Answer} (s : HoldsFor uint own ns
       go bs count (ABool b i) q h = absurd (q .typed)
       go bs count (AUint v i) q h = absurd (miss (0 ∷ 2 ∷ 3 ∷ []) 1 tt h)
       go bs count (APointer r v i) q h = absurd (q .typed)
-      go bs count (Not Fails i) q h = absurd (never-fails (ownVars own ns bs) count a (q .said))
+      go bs count (Not (Fails why) i) q h = absurd (never-fails (ownVars own ns bs) count a (q .said))
       go bs count (Not BadChoice i) q h = tt
       go bs count (Not NoChoice i) q h = tt
       go bs count (Not Stuck i) q h = tt
@@ -246,7 +247,7 @@ module _ (own : List ℕ) (rs : List Array) (cells : List ℕ) (ks : List Bool) 
       r = sym (ap (outOf uint []) e) ∙ s .said
 
       again : (f : Failure) → failed {A = ℕ} [] at f ≡ failed [] i f
-      again Fails = ap fails (drop-nil at ∙ sym (drop-nil i))
+      again (Fails why) = ap (fails (reasonOf why)) (drop-nil at ∙ sym (drop-nil i))
       again BadChoice = refl
       again NoChoice = refl
       again Stuck = refl
@@ -259,7 +260,7 @@ module _ (own : List ℕ) (rs : List Array) (cells : List ℕ) (ks : List Bool) 
       keeps = if heldReduced ks (p .array) then tracked ps (p .place) else true
 
       none : (f : Failure) → cellNumbers ps ks p (failed [] i f) ≡ []
-      none Fails = either keeps
+      none (Fails why) = either keeps
       none BadChoice = either keeps
       none NoChoice = either keeps
       none Stuck = either keeps
@@ -268,7 +269,7 @@ module _ (own : List ℕ) (rs : List Array) (cells : List ℕ) (ks : List Bool) 
       empty = ap (cellNumbers ps ks p) (sym r) ∙ none f
 
       placed-there : (f : Failure) → Reached (Not f at) out (pushAll [] (pushed out at))
-      placed-there Fails = sym (push-none (pushed out at))
+      placed-there (Fails why) = sym (push-none (pushed out at))
       placed-there BadChoice = tt
       placed-there NoChoice = tt
       placed-there Stuck = tt
@@ -322,7 +323,7 @@ module _ (x : Answer) (mid : List ℕ) (p : Pushed) {xs : List ℕ} where
 
 none-given : {A : Type 0} (f : Failure) (i : ℕ) (g : A → List ℕ) → given (failed [] i f) g ≡ []
 unfolding failed
-none-given Fails i g = refl
+none-given (Fails why) i g = refl
 none-given BadChoice i g = refl
 none-given NoChoice i g = refl
 none-given Stuck i g = refl
@@ -442,6 +443,9 @@ module _ (e : Lent) (held : List ℕ) (w : Ty) (n b c j : ℕ) (y : Bool) (x : A
 module _ (z : Answer) (at : ℕ) (out : List ℕ) where
   pub says-arith : (m : Bool) (v y : ℕ) → Says uint at z (arith m v y) → Records uint (arith m v y []) [] z out (pushed out at)
   says-arith m v y s = still-records uint (arith m v y) at (still-arith m v y) z (s .says) out
+
+  pub says-next : (v : ℕ) → Says uint at z (nextStart v) → Records uint (nextStart v []) [] z out (pushed out at)
+  says-next v s = still-records uint (nextStart v) at (still-next v) z (s .says) out
 
   pub says-moved : (m : Bool) (r v y : ℕ) → Says pointer at z (movedBy m r v y) → Records pointer (movedBy m r v y []) [] z out (pushed out at)
   says-moved m r v y s = still-records pointer (movedBy m r v y) at (still-moved m r v y) z (s .says) out

@@ -9,7 +9,7 @@ use crate::marks::marked_uint;
 use crate::pushes::push;
 use evaluators::answers::Answer;
 use evaluators::answers::Failure;
-use evaluators::answers::computed;
+use evaluators::answers::next_start;
 use evaluators::arrays::pointed;
 use evaluators::nodes::wide;
 use lists::word_or_zero;
@@ -188,7 +188,7 @@ fn record_repeat<'a>(
     let i = depth as usize;
     let row = loop_rows[i];
     let end = ends[i];
-    let x = computed(false, starts[i], 1, 0);
+    let x = next_start(starts[i], 0);
     let Answer::Uint(from, _) = x else {
         return lost(x);
     };

@@ -209,7 +209,7 @@ module _ (t : List ℕ) (f : Frame) where
                 → reportOf t f l (stoppedOf w steps at m) cells ≡ whole limit 0 m₀ cs₀ l
             go (Moves x nx) h e = absurd (miss (1 ∷ 2 ∷ []) 0 tt h)
             go (Ends end nx) h e = by-step e
-            go (Not Fails nx) h e = by-step e
+            go (Not (Fails why) nx) h e = by-step e
             go (Not BadChoice nx) h e = by-step e
             go (Not NoChoice nx) h e = by-step e
             go (Not Stuck nx) h e =

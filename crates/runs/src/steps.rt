@@ -33,10 +33,10 @@ fn failed(why: Failure, next: usize, steps: u32, at: usize, machine: Machine) ->
     ensures { λ r. ⌜ r ≡ failedOf why next steps at machine ⌝ }
 {
     match why {
-        Failure::Fails => ran_to(End::Fail, steps + 1, next, machine),
+        Failure::Fails(reason) => ran_to(End::Fail(reason), steps + 1, next, machine),
         Failure::BadChoice => ran_to(End::ChoiceNotAllowed, steps, at, machine),
         Failure::NoChoice => ran_to(End::NoChoiceLeft, steps, at, machine),
-        Failure::Stuck => ran_to(End::Fail, steps, at, machine),
+        Failure::Stuck => ran_to(End::OutOfSteps, steps, at, machine),
     }
 }
 
@@ -48,7 +48,7 @@ fn stopped(w: Worked, steps: u32, at: usize, machine: Machine) -> Ran
     match w {
         Worked::Ends(end, next) => ran_to(end, steps + 1, next, machine),
         Worked::Not(why, next) => failed(why, next, steps, at, machine),
-        Worked::Moves(_, _) => ran_to(End::Fail, steps, at, machine),
+        Worked::Moves(_, _) => ran_to(End::OutOfSteps, steps, at, machine),
     }
 }
 

@@ -1,5 +1,7 @@
 // What the test programs share: cases on standard input, each after its length in bytes; the parts of the lines that they print; and
 // check numbers of words and of bytes.
+use evaluators::answers::Reason;
+use evaluators::answers::reason_number;
 use file::word::word_at;
 use machine::End;
 use table::Verdict;
@@ -99,13 +101,19 @@ pub fn print_verdict(v: Verdict) {
     }
 }
 
-// Prints the name of an end (rule 8.4); the choice writer has one more, `full`. Whether it was written.
+// Prints a failure with its reason (rule 8.17). Whether it was written.
+fn print_failure(why: Reason) -> bool {
+    print_part(b"fail reason ", reason_number(why) as u64);
+    true
+}
+
+// Prints the name of an end (rule 8.4), a failure with its reason; the choice writer has one more, `full`. Whether it was written.
 pub fn print_end(e: End) -> bool {
     match e {
         End::Done => io::write_all(1, b"done"),
         End::AssertFalse => io::write_all(1, b"assert"),
         End::AssumeFalse => io::write_all(1, b"assume"),
-        End::Fail => io::write_all(1, b"fail"),
+        End::Fail(why) => print_failure(why),
         End::WantOfCells => io::write_all(1, b"room"),
         End::OutOfSteps => io::write_all(1, b"steps"),
         End::ChoiceNotAllowed => io::write_all(1, b"badchoice"),

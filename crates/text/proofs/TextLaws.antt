@@ -12,6 +12,8 @@ use lib.Seq.{take-suc}
 use borrow.Author.Tests.{lt-ltb, le-ltb}
 use Rattle.lists.proofs.TabLaws.{length-tab}
 use Rattle.lists.proofs.FallingLaws.{value-is}
+use Rattle.model.specs.Work.{Reason, reasonNumber}
+use Rattle.model.specs.Work.Reason.{sumTooLarge, belowZero, withoutArray, pastLength, counterTooLarge}
 use Rattle.model.specs.Step.{End}
 use Rattle.model.specs.Step.End.{done, assertFalse, assumeFalse, failed, wantOfCells, outOfSteps, choiceNotAllowed, noChoiceLeft, listFull}
 use Rattle.machine.specs.View.{endOf}
@@ -20,7 +22,7 @@ use Rattle.pair.specs.Pairs.{lineOf}
 use Rattle.pair.specs.Pairs.PairSaid.{refusal, lines}
 use Rattle.recording.specs.CodePushes.{Pushed, pushed, push, pushAll}
 use Rattle.recording.proofs.PushLaws.{push-one, push-append, push-fits}
-use Rattle.text.specs.Text.{bytes, digit, decimalBy, decimal, endWord, part, runText, pairText}
+use Rattle.text.specs.Text.{bytes, digit, decimalBy, decimal, endText, part, runText, pairText}
 use Rattle.text.specs.CodePuts.{Puts}
 
 -- ---- decimals
@@ -84,29 +86,39 @@ length-bytes : (s : String) → length (bytes s) ≡ len s
 unfolding bytes
 length-bytes s = length-tab (len s) _
 
-end-most : (e : End) → length (bytes (endWord e)) ≤ 9
-end-most e = rw (length-bytes (endWord e)) (go e)
+-- ... of a reason, one digit
+reason-most : (why : Reason) → length (part "fail reason " (reasonNumber why)) ≤ 13
+reason-most why =
+    let h = decimal-length 0 (reasonNumber why) (small why) in
+    rw (length-append (bytes "fail reason ") (decimal (reasonNumber why)), length-bytes "fail reason ") (omega arith)
   where
-    go : (e : End) → len (endWord e) ≤ 9
-    go done = omega arith
-    go assertFalse = omega arith
-    go assumeFalse = omega arith
-    go failed = omega arith
-    go wantOfCells = omega arith
-    go outOfSteps = omega arith
-    go choiceNotAllowed = omega arith
-    go noChoiceLeft = omega arith
-    go listFull = omega arith
+    small : (why : Reason) → reasonNumber why < 10
+    small sumTooLarge = omega arith
+    small belowZero = omega arith
+    small withoutArray = omega arith
+    small pastLength = omega arith
+    small counterTooLarge = omega arith
+
+end-most : (e : End) → length (endText e) ≤ 13
+end-most done = rw (length-bytes "done") (omega arith)
+end-most assertFalse = rw (length-bytes "assert") (omega arith)
+end-most assumeFalse = rw (length-bytes "assume") (omega arith)
+end-most (failed why) = reason-most why
+end-most wantOfCells = rw (length-bytes "room") (omega arith)
+end-most outOfSteps = rw (length-bytes "steps") (omega arith)
+end-most choiceNotAllowed = rw (length-bytes "badchoice") (omega arith)
+end-most noChoiceLeft = rw (length-bytes "nochoice") (omega arith)
+end-most listFull = rw (length-bytes "full") (omega arith)
 
 part-most : (name : String) (n : ℕ) → length (decimal n) ≤ 20 → length (part name n) ≤ len name + 20
 part-most name n h = rw (length-append (bytes name) (decimal n), length-bytes name) (omega arith)
 
-pub run-most : (l : Line) → length (decimal (l .row)) ≤ 20 → length (decimal (l .steps)) ≤ 20 → length (runText (lineOf l)) ≤ 61
+pub run-most : (l : Line) → length (decimal (l .row)) ≤ 20 → length (decimal (l .steps)) ≤ 20 → length (runText (lineOf l)) ≤ 65
 run-most l h g =
     let a = end-most (endOf (l .end)) in
     let b : length (part " row " (l .row)) ≤ 25 = part-most " row " (l .row) h in
     let c : length (part " steps " (l .steps)) ≤ 27 = part-most " steps " (l .steps) g in
-    rw (length-append (bytes (endWord (endOf (l .end)))) (part " row " (l .row) ++ part " steps " (l .steps)),
+    rw (length-append (endText (endOf (l .end))) (part " row " (l .row) ++ part " steps " (l .steps)),
         length-append (part " row " (l .row)) (part " steps " (l .steps))) (omega arith)
 
 pub refusal-most : (number place : ℕ) → length (decimal number) ≤ 20 → length (decimal place) ≤ 20 → length (pairText (refusal number place)) ≤ 256
@@ -117,7 +129,7 @@ refusal-most number place h g =
     let c : length (bytes "\n") ≡ 1 = length-bytes "\n" in
     rw (length-append (part "refused " number) (part " line " place ++ bytes "\n"), length-append (part " line " place) (bytes "\n")) (omega arith)
 
-pub runs-most : (first second : Line) → length (runText (lineOf first)) ≤ 61 → length (runText (lineOf second)) ≤ 61
+pub runs-most : (first second : Line) → length (runText (lineOf first)) ≤ 65 → length (runText (lineOf second)) ≤ 65
     → length (decimal (second .used)) ≤ 20 → length (pairText (lines (lineOf first) (lineOf second))) ≤ 256
 unfolding pairText
 runs-most first second h g l =

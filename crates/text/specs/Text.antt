@@ -7,6 +7,7 @@ use lib.Dec.{ltb}
 use Rattle.lists.specs.If.{if_then_else_}
 use Rattle.lists.specs.Tab.{tab}
 use Rattle.lists.specs.Falling.{valueAt}
+use Rattle.model.specs.Work.{reasonNumber}
 use Rattle.model.specs.Step.{End}
 use Rattle.model.specs.Step.End.{done, assertFalse, assumeFalse, failed, wantOfCells, outOfSteps, choiceNotAllowed, noChoiceLeft, listFull}
 use Rattle.pair.specs.Pairs.{LineSaid, PairSaid, pairSaid}
@@ -27,25 +28,25 @@ decimalBy n below = if ltb n 10 then digit n ∷ [] else below (n / 10) ++ (digi
 unfoldable pub decimal : ℕ → List ℕ
 decimal = valueAt decimalBy []
 
--- the word of an end (rule 8.4); no run of a machine ends with the last
-abbrev pub endWord : End → String
-endWord done = "done"
-endWord assertFalse = "assert"
-endWord assumeFalse = "assume"
-endWord failed = "fail"
-endWord wantOfCells = "room"
-endWord outOfSteps = "steps"
-endWord choiceNotAllowed = "badchoice"
-endWord noChoiceLeft = "nochoice"
-endWord listFull = "full"
-
 -- a part of a line, by its name: a number
 abbrev pub part : String → ℕ → List ℕ
 part name n = bytes name ++ decimal n
 
+-- an end by its word (rule 8.4), a failure with its reason (rule 8.17); no run of a machine ends with the last
+abbrev pub endText : End → List ℕ
+endText done = bytes "done"
+endText assertFalse = bytes "assert"
+endText assumeFalse = bytes "assume"
+endText (failed why) = part "fail reason " (reasonNumber why)
+endText wantOfCells = bytes "room"
+endText outOfSteps = bytes "steps"
+endText choiceNotAllowed = bytes "badchoice"
+endText noChoiceLeft = bytes "nochoice"
+endText listFull = bytes "full"
+
 -- a run: its end, the row where it stands and the steps taken (rule 8.3). There is no run without an end (Demand1 of `demands`)
 abbrev pub runText : LineSaid → List ℕ
-runText (line e row steps used) = bytes (endWord e) ++ (part " row " row ++ part " steps " steps)
+runText (line e row steps used) = endText e ++ (part " row " row ++ part " steps " steps)
 runText noLine = []
 
 -- the choices used

@@ -1,4 +1,5 @@
 // What the bench program prints, put into a lent buffer byte by byte.
+use evaluators::answers::reason_number;
 use machine::End;
 use pair::Line;
 use pair::Paired;
@@ -13,7 +14,7 @@ ghost use Rattle.machine.specs.View.{endOf};
 ghost use Rattle.pair.specs.Pairs.{lineOf, saidOf};
 ghost use Rattle.pair.specs.Pairs.PairSaid.{refusal, lines};
 ghost use Rattle.text.specs.CodePuts.{Puts};
-ghost use Rattle.text.specs.Text.{bytes, digit, decimal, endWord, runText, pairText, printed};
+ghost use Rattle.text.specs.Text.{digit, decimal, endText, runText, pairText, printed};
 
 // Puts a byte at a place and answers the place after it; a buffer that has no such place is left as it is.
 fn put(out: &mut [u8], at: usize, b: u8) -> usize
@@ -67,15 +68,15 @@ fn put_part(out: &mut [u8], at: usize, name: &[u8], n: u64) -> usize
     put_number(out, next, n)
 }
 
-// Puts the word of an end.
+// Puts an end: its word, and the reason of a failure.
 fn put_end(out: &mut [u8], at: usize, e: End) -> usize
-    ensures { λ r. ⌜ Puts (bytes (endWord (endOf e))) (now (out .entry)) at (now (out .exit)) r ⌝ }
+    ensures { λ r. ⌜ Puts (endText (endOf e)) (now (out .entry)) at (now (out .exit)) r ⌝ }
 {
     match e {
         End::Done => put_word(out, at, b"done"),
         End::AssertFalse => put_word(out, at, b"assert"),
         End::AssumeFalse => put_word(out, at, b"assume"),
-        End::Fail => put_word(out, at, b"fail"),
+        End::Fail(why) => put_part(out, at, b"fail reason ", reason_number(why) as u64),
         End::WantOfCells => put_word(out, at, b"room"),
         End::OutOfSteps => put_word(out, at, b"steps"),
         End::ChoiceNotAllowed => put_word(out, at, b"badchoice"),
@@ -87,7 +88,7 @@ fn put_end(out: &mut [u8], at: usize, e: End) -> usize
 // Puts a run after its name: its end, where it stands and its steps.
 fn put_run(out: &mut [u8], at: usize, line: Line) -> usize
     ensures { λ r. ⌜ Puts (runText (lineOf line)) (now (out .entry)) at (now (out .exit)) r ⌝ }
-    ensures { λ _. ⌜ length (runText (lineOf line)) ≤ 61 ⌝ }
+    ensures { λ _. ⌜ length (runText (lineOf line)) ≤ 65 ⌝ }
 {
     let e = line.end;
     let a = put_end(out, at, e);

@@ -2,7 +2,6 @@
 -- Assumes nothing.
 use native.Mathlib.Numerals.{add-one}
 use mathlib.Core.Path.{_∙_}
-use Rattle.choices.proofs.WriteLaws.{other-stop}
 use borrow.Author.Needs.{needs}
 use Rattle.choices.proofs.steps.stopped.Statement.{statement}
 use Rattle.choices.proofs.steps.stopped.Tie as tie
@@ -11,9 +10,10 @@ returns : tie.Need-returns
 returns c = c .wrote-to .ensures ∙ rw (c .before .before .w .given .1, add-one)
 
 returns-2 : tie.Need-returns-2
-returns-2 c =
-    let g = c .before .before .args in
-    c .wrote-to2 .ensures ∙ rw add-one (other-stop (g .w) (g .steps) (g .at) (g .machine) (c .before .match .keys2))
+returns-2 c = c .wrote-to2 .ensures ∙ rw (c .before .failed-end .ensures, c .before .before .before .w2 .given .1, add-one)
+
+returns-3 : tie.Need-returns-3
+returns-3 c = c .wrote-to3 .ensures ∙ rw (c .before .enum-told .given .1, add-one)
 
 pub stopped-spec : {M : Type 1} → statement M
 stopped-spec =
@@ -24,5 +24,11 @@ stopped-spec =
     (λ c κs. search needs)
     (λ c. search needs)
     (λ c κs. search needs)
+    (λ c. search needs)
+    (λ c κs. search needs)
+    (λ c. search needs)
+    (λ c. search needs)
+    (λ c κs. search needs)
     returns
-    returns-2)
+    returns-2
+    returns-3)

@@ -4,6 +4,7 @@ use lib.ListN.{drop}
 use borrow.Author.Tests.{lt-ltb, le-ltb}
 use Rattle.model.specs.Table.Ty.{uint}
 use Rattle.evaluators.specs.CodeLeaves.{targetOut, loadOf}
+use Rattle.evaluators.specs.declared.answers.Reason.the-variants.{WithoutArray, PastLength}
 use Rattle.evaluators.proofs.AnswerLaws.{said-fails, said-stuck}
 use borrow.Author.Needs.{needs}
 use Rattle.evaluators.proofs.arrays.cell.Statement.{statement}
@@ -14,7 +15,8 @@ unfolding loadOf targetOut
 returns c =
     let g = c .before .before .before .before .before .before .before .args in
     let cs = drop (g .at) (g .list .now) in
-    said-fails uint (rw (← c .before .before .before .before .pointed .ensures .found cs, c .before .before .x .given .1, le-ltb _ _ (c .if1 .taken)))
+    let x = c .before .before in
+    said-fails uint PastLength (rw (← x .before .before .pointed .ensures .found cs, x .x .given .1, le-ltb _ _ (c .if1 .taken)))
 
 returns-2 : tie.Need-returns-2
 unfolding loadOf targetOut
@@ -29,7 +31,7 @@ unfolding loadOf targetOut
 returns-3 c =
     let g = c .before .before .before .before .before .args in
     let cs = drop (g .at) (g .list .now) in
-    said-fails uint (rw (← c .before .before .pointed .ensures .found cs, c .enum-told .given .1))
+    said-fails uint WithoutArray (rw (← c .before .before .pointed .ensures .found cs, c .enum-told .given .1))
 
 returns-4 : tie.Need-returns-4
 unfolding loadOf targetOut

@@ -24,7 +24,7 @@ returns-2 c a b k count bs fs ls hs cells =
     let d = g .«open» - 1 in
     let e : g .«open» ≡ suc d = omega (arith, c .before .before .before .before .before .before .if1 .left) in
     let m = columns (g .here) (g .ns .now) bs (g .«open») (g .loop-rows .now) (g .starts .now) (g .ends .now) count fs ls hs in
-    repeat-ends (g .own .now) (g .list .now) m cells a b k (g .at) d e _ (c .before .before .computed .ensures) (c .before .match .keys2) (c .lost .ensures)
+    repeat-ends (g .own .now) (g .list .now) m cells a b k (g .at) d e _ (c .before .before .next-start .ensures) (c .before .match .keys2) (c .lost .ensures)
 
 loop-at-requires : tie.Need-loop-at-requires
 loop-at-requires c κs =
@@ -66,7 +66,7 @@ returns-3 c a b k count bs fs ls hs cells =
     let e : g .«open» ≡ suc d = omega (arith, c .before .before .before .before .before .before .before .before .before .before .if1 .left) in
     let m = columns (g .here) (g .ns .now) bs (g .«open») (g .loop-rows .now) (g .starts .now) (g .ends .now) count fs ls hs in
     repeat-loop (g .own .now) (g .list .now) m cells a b k (g .at) d e _
-    (c .before .before .before .before .before .before .computed .ensures) (c .before .before .before .before .x .given .1)
+    (c .before .before .before .before .before .before .next-start .ensures) (c .before .before .before .before .x .given .1)
     (c .before .before .row-word .ensures) false (kind-38 (c .before .match2 .keys1))
     (c .loop-at .ensures .loops (g .«open») count bs (g .loop-rows .now) (g .starts .now) (g .ends .now) fs ls hs cells
     (s .pre .loopRows) (s .pre .starts) (s .pre .ends))
@@ -79,7 +79,7 @@ returns-4 c a b k count bs fs ls hs cells =
     let e : g .«open» ≡ suc d = omega (arith, c .before .before .before .before .before .before .before .before .before .before .if1 .left) in
     let m = columns (g .here) (g .ns .now) bs (g .«open») (g .loop-rows .now) (g .starts .now) (g .ends .now) count fs ls hs in
     repeat-loop (g .own .now) (g .list .now) m cells a b k (g .at) d e _
-    (c .before .before .before .before .before .before .computed .ensures) (c .before .before .before .before .x .given .1)
+    (c .before .before .before .before .before .before .next-start .ensures) (c .before .before .before .before .x .given .1)
     (c .before .before .row-word .ensures) true (kind-42 (c .before .match2 .keys2))
     (c .loop-at2 .ensures .loops (g .«open») count bs (g .loop-rows .now) (g .starts .now) (g .ends .now) fs ls hs cells
     (s .pre .loopRows) (s .pre .starts) (s .pre .ends))
@@ -92,7 +92,7 @@ returns-5 c a b k count bs fs ls hs cells =
     let e : g .«open» ≡ suc d = omega (arith, c .before .before .before .before .before .before .before .before .before .if1 .left) in
     let m = columns (g .here) (g .ns .now) bs (g .«open») (g .loop-rows .now) (g .starts .now) (g .ends .now) count fs ls hs in
     repeat-other (g .own .now) (g .list .now) m cells a b k (g .at) d e _
-    (c .before .before .before .before .before .computed .ensures) (c .before .before .before .x .given .1) (c .before .row-word .ensures)
+    (c .before .before .before .before .before .next-start .ensures) (c .before .before .before .x .given .1) (c .before .row-word .ensures)
     (c .match2 .rest .0 .1) (c .match2 .rest .1)
 
 pub repeated-spec : {M : Type 1} → statement M

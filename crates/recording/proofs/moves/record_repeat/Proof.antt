@@ -24,7 +24,7 @@ returns-2 c a b k count bs fs ls hs cells held =
     let d = g .«open» - 1 in
     let e : g .«open» ≡ suc d = omega (arith, p .before .before .before .before .if1 .left) in
     let m = columns (g .here) (g .ns .now) bs (g .«open») (g .loop-rows .now) (g .starts .now) (g .ends .now) count fs ls hs in
-    repeat-no-start (g .own .now) m cells held (s .pre .1) a b k _ d e _ (p .computed .ensures) (c .before .match .keys2) (c .lost .ensures)
+    repeat-no-start (g .own .now) m cells held (s .pre .1) a b k _ d e _ (p .next-start .ensures) (c .before .match .keys2) (c .lost .ensures)
 
 entry-requires : tie.Need-entry-requires
 entry-requires c κs =
@@ -46,7 +46,7 @@ returns-3 c a b k count bs fs ls hs cells held =
     let d = g .«open» - 1 in
     let e : g .«open» ≡ suc d = omega (arith, p .before .before .before .before .if1 .left) in
     let m = columns (g .here) (g .ns .now) bs (g .«open») (g .loop-rows .now) (g .starts .now) (g .ends .now) count fs ls hs in
-    repeat-recorded (g .own .now) m cells held (s .pre .1) a b k _ d e _ (p .computed .ensures) (q .before .before .before .x .given .1)
+    repeat-recorded (g .own .now) m cells held (s .pre .1) a b k _ d e _ (p .next-start .ensures) (q .before .before .before .x .given .1)
     (q .before .row-word .ensures) _ _ (s .pre .0) (q .if2 .taken) (c .before .before .before .record-bounds .ensures) (c .entry .ensures)
 
 returns-4 : tie.Need-returns-4
@@ -57,7 +57,7 @@ returns-4 c a b k count bs fs ls hs cells held =
     let d = g .«open» - 1 in
     let e : g .«open» ≡ suc d = omega (arith, p .before .before .before .before .if1 .left) in
     let m = columns (g .here) (g .ns .now) bs (g .«open») (g .loop-rows .now) (g .starts .now) (g .ends .now) count fs ls hs in
-    repeat-no-loop (g .own .now) m cells held (s .pre .1) a b k _ d e _ (p .computed .ensures) (c .before .before .before .x .given .1)
+    repeat-no-loop (g .own .now) m cells held (s .pre .1) a b k _ d e _ (p .next-start .ensures) (c .before .before .before .x .given .1)
     (c .before .row-word .ensures) (c .if2 .left)
 
 pub record-repeat-spec : {M : Type 1} → statement M
