@@ -164,7 +164,12 @@ broken(
 
 READ = "        if pointer[1] >= array[1]:\n"
 NONE_TO_READ = "        if array is None:\n            raise failed(NO_ARRAY)\n" + READ
-broken("2.14", "a cell with no array reads as 0", (NONE_TO_READ, NONE_TO_READ.replace("raise failed(NO_ARRAY)", "return 0")), kinds={19, 28})
+broken(
+    "2.14",
+    "a cell with no array reads as 0",
+    (NONE_TO_READ, NONE_TO_READ.replace("raise failed(NO_ARRAY)", "return 0")),
+    kinds={19, 28},
+)
 broken("2.14", "19 at the length reads on", (READ, READ.replace("array[1]:", "array[1] + (not array[2]):")), kinds={19, 28})
 broken("3.15", "28 at the true length reads on", (READ, READ.replace("array[1]:", "array[1] + array[2]:")), kinds={28}, stops=True)
 broken("2.14", "19 fails at the last place", (READ, READ.replace("array[1]:", "array[1] - (not array[2]):")), kinds={19, 28})
@@ -279,19 +284,23 @@ READ_PAST = READ + "            raise failed(PAST)\n"
 for what, old, right in ("a cell read with no array", NONE_TO_READ, "NO_ARRAY"), ("a cell read past the length", READ_PAST, "PAST"):
     for wrong in "SUM", "DIFFERENCE", "NO_ARRAY", "PAST", "COUNTER":
         if wrong != right:
-            broken("2.36", "%s has the reason %s" % (what, wrong), (old, old.replace("failed(%s)" % right, "failed(%s)" % wrong)), kinds={19, 28})
+            other = old.replace("failed(%s)" % right, "failed(%s)" % wrong)
+            broken("2.36", "%s has the reason %s" % (what, wrong), (old, other), kinds={19, 28})
 for what, old, right in ("a write with no array", WRITTEN, "NO_ARRAY"), ("a write past the length", PAST, "PAST"):
     for wrong in "SUM", "DIFFERENCE", "NO_ARRAY", "PAST", "COUNTER":
         if wrong != right:
-            broken("2.36", "%s has the reason %s" % (what, wrong), (old, old.replace("failed(%s)" % right, "failed(%s)" % wrong)), kinds={34, 40})
+            other = old.replace("failed(%s)" % right, "failed(%s)" % wrong)
+            broken("2.36", "%s has the reason %s" % (what, wrong), (old, other), kinds={34, 40})
 BY_PLACE = "failed(PAST if pointer[1] else NO_ARRAY)"
 broken("2.36", "a read with no array goes by its place", (NONE_TO_READ, NONE_TO_READ.replace("failed(NO_ARRAY)", BY_PLACE)), kinds={19, 28})
 broken("2.36", "a write with no array goes by its place", (WRITTEN, WRITTEN.replace("failed(NO_ARRAY)", BY_PLACE)), kinds={34, 40})
 BY_LENGTH = "failed(PAST if array[1] else NO_ARRAY)"
 broken("2.36", "an array of length 0 is none to read", (READ_PAST, READ_PAST.replace("failed(PAST)", BY_LENGTH)), kinds={19, 28})
 broken("2.36", "an array of length 0 is none to write", (PAST, PAST.replace("failed(PAST)", BY_LENGTH)), kinds={34, 40})
-broken("2.36", "28 past the length of a reduced array has the reason NO_ARRAY", (READ_PAST, READ_PAST.replace("PAST", "NO_ARRAY if array[2] else PAST")), kinds={28})
-broken("2.36", "40 past the length of a reduced array has the reason NO_ARRAY", (PAST, PAST.replace("PAST", "NO_ARRAY if reduced else PAST")), kinds={40})
+IF_REDUCED = READ_PAST.replace("PAST", "NO_ARRAY if array[2] else PAST")
+broken("2.36", "28 past the length of a reduced array has the reason NO_ARRAY", (READ_PAST, IF_REDUCED), kinds={28})
+IF_REDUCED = PAST.replace("PAST", "NO_ARRAY if reduced else PAST")
+broken("2.36", "40 past the length of a reduced array has the reason NO_ARRAY", (PAST, IF_REDUCED), kinds={40})
 STORED_EARLY = "            pointer = self.value(state, a)\n            if kind == 34 and %s:\n                raise failed(%s)\n"
 STORED_EARLY += "            self.write(state, pointer, self.value(state, b))"
 broken("2.38", "34 tests for an array before it works out its value", (STORED, STORED_EARLY % ("not pointer[0]", "NO_ARRAY")), kinds={34})

@@ -1,7 +1,7 @@
 -- Why a row failed: matching ends have equal reasons, by demand 3; which reasons there are, by the model.
 -- Assumes nothing.
 use mathlib.Core.Path.{_≡_, refl, sym, ap, _∙_, subst}
-use Prim.Native.Nat.{ℕ, _+_, _-_, _<_, _≤_}
+use Prim.Native.Nat.{ℕ, _+_, _-_, _<_}
 use native.Mathlib.Omega.{arith}
 use mathlib.Core.Bool.{false}
 use mathlib.Core.List.{List, [], _∷_, _++_}
@@ -28,7 +28,7 @@ use Rattle.runs.specs.Answers.Said.{reports}
 use Rattle.choices.specs.Answers.Said.{writes}
 use Rattle.choices.specs.Demand3.{Demand3}
 use Rattle.choices.proofs.Demand3Proof.{demand-3}
-use Rattle.demands.specs.Reasons.{RunFails, WriterFails, SameReason, MatchingReasons, Reasons}
+use Rattle.demands.specs.Reasons.{RunFails, WriterFails, SameReason, MatchingReasons, Numbered, Reasons}
 
 -- the check of a pair is that a number stands between
 pub pair-passes : (c1 c2 : ℕ) → c1 + 1 < c2 → placesCheck (pair c1 c2) ≡ Passes
@@ -80,7 +80,8 @@ module _ (ps P : List ℕ) (D : Demand3 ps P) (limit : ℕ) (cells reducedCells 
         failed-so (M .plainIs) (M .matched .plainIs) why (end-failed (M .reducedIs) (M .matched .reducedIs) why h);
     written = λ lent room h.
         let list = choiceList ps P limit in
-        subst (WriterFails why) (sym (D .fits limit cells lent hp room)) (plain-report h (plainRun P limit) refl (list ++ drop (length list) lent));
+        subst (WriterFails why) (sym (D .fits limit cells lent hp (omega (arith, room))))
+        (plain-report h (plainRun P limit) refl (list ++ drop (length list) lent));
   }
 
 pub matching-reasons : MatchingReasons
@@ -88,7 +89,7 @@ matching-reasons c1 c2 h P pass limit cells reducedCells hp hr why =
     same-reason (pair c1 c2) P (demand-3 (pair c1 c2) (pair-passes c1 c2 (omega (arith, h))) P pass) limit cells reducedCells hp hr why
 
 -- ---- the numbers
-number-within : (why : Reason) → (1 ≤ reasonNumber why) × (reasonNumber why ≤ 5)
+number-within : (why : Reason) → Numbered why
 number-within sumTooLarge = (omega arith, omega arith)
 number-within belowZero = (omega arith, omega arith)
 number-within withoutArray = (omega arith, omega arith)

@@ -48,9 +48,13 @@ MatchingReasons =
     (c1 c2 : ℕ) → c1 + 1 < c2 → (P : List ℕ) → tableCheck plain P ≡ Passes → (limit : ℕ) (cells reducedCells : List ℕ)
     → length cells ≡ cellCount plain → length reducedCells ≡ cellCount reduced → (why : Reason) → SameReason (pair c1 c2) P limit cells reducedCells why
 
+-- the number of a reason is 1 to 5
+abbrev pub Numbered : Reason → Type 0
+Numbered why = (1 ≤ reasonNumber why) × (reasonNumber why ≤ 5)
+
 pub record Reasons : Type 0 where
   -- five, each with a number of its own
-  pub numbers : (why : Reason) → (1 ≤ reasonNumber why) × (reasonNumber why ≤ 5)
+  pub numbers : (why : Reason) → Numbered why
   pub apart : (why other : Reason) → reasonNumber why ≡ reasonNumber other → why ≡ other
   pub matching : MatchingReasons
   -- 1 to 4 are those of nodes and of rows other than 39, whose one reason is 5; 26 and 29 have none

@@ -19,7 +19,6 @@ use Rattle.model.specs.Table.Node.{variable, uintConstant, boolConstant,
 use Rattle.model.specs.Table.Node.{reducedCell, reducedValid, noNode}
 use Rattle.model.specs.Table.Row.{skip, assign, store, assert, assume, array, loop, loopEnd, reducedStore, reducedArray, classLoop, noRow}
 use Rattle.model.specs.Work.{Reason, Out, Work, _>>=_, choose, fail, give, next, wrong}
-use Rattle.model.specs.Work.Reason.{sumTooLarge, counterTooLarge}
 use Rattle.model.specs.Work.Out.{gives, fails, badChoice, noChoice, stuck}
 use Rattle.model.specs.State.{Array, Loop, MachineKind, Position, State, Value, classed, formOf, fresh, mostArrays, position, startOf}
 use Rattle.model.specs.State.MachineKind.{reduced}
@@ -185,7 +184,7 @@ module _ (ps : List ℕ) (s : Contents) where
   any-rule w uintConstant a b c ih = any-uints w (keeps-give tt)
   any-rule w boolConstant a b c ih = any-bools w (keeps-give tt)
   any-rule w cell a b c ih = any-uints w (any-bind (ih pointer a) (any-load ps (s .arrays) (s .cells)))
-  any-rule w plus a b c ih = any-sum add (any-add sumTooLarge) w (ih w a) (ih uint b)
+  any-rule w plus a b c ih = any-sum add (any-add _) w (ih w a) (ih uint b)
   any-rule w minus a b c ih = any-sum subtract any-subtract w (ih w a) (ih uint b)
   any-rule w less a b c ih = any-bools w (any-compare ltb (ih uint a) (ih uint b))
   any-rule w atMost a b c ih = any-bools w (any-compare leb (ih uint a) (ih uint b))
@@ -313,7 +312,7 @@ module _ (ps : List ℕ) (m : MachineKind) (t : Table) where
     keeps-repeat [] e g = keeps-wrong
     keeps-repeat (l ∷ ls) e g =
         let c : Chain t (l .row ∷ loopRows ls) = subst (Chain t) (sym e) (chain t (s .here .row) (omega arith)) in
-        keeps-bind (any-add counterTooLarge (l .start) 1)
+        keeps-bind (any-add _ (l .start) 1)
         (λ x _. keeps-loop (withLoops s ls) (regular-here s R (position _ ls) (g .1)) (l .row) (rowKind (rowAt t (l .row) .kind))
             (rows-fit m t A (l .row) (c .0)) x
             (l .end) (keeps-give tt))

@@ -14,7 +14,7 @@ use Rattle.model.specs.Table.Ty.{bool, uint, pointer}
 use Rattle.model.specs.Table.Node.{variable, uintConstant, boolConstant, cell, plus, minus, less, atMost, equal, conditional, valid, classVariable}
 use Rattle.model.specs.Table.Node.{reducedCell, reducedValid, noNode}
 use Rattle.model.specs.Work.{Reason, Work, _>>=_, choose, fail, give}
-use Rattle.model.specs.Work.Reason.{sumTooLarge, pastLength}
+use Rattle.model.specs.Work.Reason.{pastLength}
 use Rattle.model.specs.State.{Array, MachineKind, State, Value, placesIn}
 use Rattle.model.specs.State.MachineKind.{plain, reduced}
 use Rattle.model.specs.State.Value.{Truth, Uint, Class, Pointer}
@@ -288,7 +288,7 @@ module _ {m : MachineKind} {F : ℕ → Type 0} {ps : List ℕ} {extra : Extra} 
   match-rule w boolConstant h a b c k ih = match-bools w (match-give tt)
   match-rule w cell h a b c k {ev} ih =
       matches-are (cell-acts fs (contentsOf p) w a b c ev m first-flat) refl (match-uints w (match-bind (ih pointer a) match-load))
-  match-rule w plus h a b c k ih = match-sumOrDifference add (λ x y _. match-add C sumTooLarge x y) w (ih w a) (ih uint b)
+  match-rule w plus h a b c k ih = match-sumOrDifference add (λ x y _. match-add C _ x y) w (ih w a) (ih uint b)
   match-rule w minus h a b c k ih = match-sumOrDifference subtract (match-subtract C) w (ih w a) (ih uint b)
   match-rule w less h a b c k ih = match-bools w (match-compare ltb (ih uint a) (ih uint b))
   match-rule w atMost h a b c k ih = match-bools w (match-compare leb (ih uint a) (ih uint b))

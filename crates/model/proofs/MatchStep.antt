@@ -15,7 +15,7 @@ use Rattle.model.specs.Table.{Row, Table, Ty, markedPointer, markedUint,
 use Rattle.model.specs.Table.Ty.{bool, uint, pointer}
 use Rattle.model.specs.Table.Row.{skip, assign, store, assert, assume, array, loop, loopEnd, reducedStore, reducedArray, classLoop, noRow}
 use Rattle.model.specs.Work.{Work, _>>=_, choose, fail, give, wrong}
-use Rattle.model.specs.Work.Reason.{pastLength, counterTooLarge}
+use Rattle.model.specs.Work.Reason.{pastLength}
 use Rattle.model.specs.Work.Out.{gives}
 use Rattle.model.specs.State.{Array, Loop, MachineKind, Position, State, Value, position, mostArrays, formOf, placesIn}
 use Rattle.model.specs.State.MachineKind.{plain, reduced}
@@ -226,7 +226,7 @@ module _ {m : MachineKind} {F : ℕ → Type 0} (ps : List ℕ) (extra : Extra) 
         → Matches m F (Moves extra (L ks)) (repeatLoop fs v p ls) (repeatLoop ps u r ls) (repeatChoices ps t ks p ls)
     match-repeat A [] k = matches-wrong
     match-repeat {p} {r} A (l ∷ ls) k =
-        match-bind (match-add (R .closed) counterTooLarge (l .start) 1)
+        match-bind (match-add (R .closed) _ (l .start) 1)
         (λ x fx. rw (R .first .kind (l .row), R .second .kind (l .row))
         (match-loop (linked-here A (ap (λ (h : Position). position (h .row) ls) (A .here)) (k .2)) (l .row) (rowKind (rowAt t (l .row) .kind))
             (R .kinds .row (l .row)) x (l .end) fx (k .1)

@@ -17,7 +17,7 @@ use Rattle.model.specs.Table.Node.{reducedCell, reducedValid, noNode}
 use Rattle.model.specs.Table.Row.{skip, assign, store, assert, assume, array, loop, loopEnd, reducedStore, reducedArray, classLoop, noRow}
 use Rattle.model.specs.Work.{Reason, reasonNumber, Out, Work, _>>=_, next, give, fail, wrong, choose}
 use Rattle.model.specs.Work.Out.{gives, fails, badChoice, noChoice, stuck}
-use Rattle.model.specs.Work.Reason.{sumTooLarge, belowZero, withoutArray, pastLength, counterTooLarge}
+use Rattle.model.specs.Work.Reason.{pastLength, counterTooLarge}
 use Rattle.model.specs.State.{Value, formOf, Array, Loop, State}
 use Rattle.model.specs.State.Value.{Truth, Uint, Class, Pointer}
 use Rattle.model.specs.Eval.{Contents, contentsOf, Of, Ptr, add, arrayOf, asClass, below, bools, cellOf, compare, eval, evalF, indexOf}
@@ -154,13 +154,13 @@ other : (why : Reason) → reasonNumber why ≢ 5 → Four why
 other why h e = h (let z : reasonNumber why ≡ 5 = cc in z)
 
 sum-for : (x y : ℕ) → For Four (add x y)
-sum-for x y = if-for (leb (x + y) most) give-for (fail-for (other sumTooLarge (λ e. omega arith)))
+sum-for x y = if-for (leb (x + y) most) give-for (fail-for (other _ (λ e. omega arith)))
 
 difference-for : (x y : ℕ) → For Four (subtract x y)
-difference-for x y = if-for (leb y x) give-for (fail-for (other belowZero (λ e. omega arith)))
+difference-for x y = if-for (leb y x) give-for (fail-for (other _ (λ e. omega arith)))
 
 array-for : (rs : List Array) (r : ℕ) → For Four (arrayOf rs r)
-array-for rs zero = fail-for (other withoutArray (λ e. omega arith))
+array-for rs zero = fail-for (other _ (λ e. omega arith))
 array-for rs (suc i) = if-for (ltb i (length rs)) give-for wrong-for
 
 past-for : {A : Type 0} → For Four (fail {A = A} pastLength)

@@ -15,7 +15,6 @@ use Rattle.model.specs.Table.Ty.{bool, uint, pointer}
 use Rattle.model.specs.Table.Node.{variable, uintConstant, boolConstant, cell, plus, minus, less, atMost, equal, conditional, valid, classVariable}
 use Rattle.model.specs.Table.Node.{reducedCell, reducedValid, noNode}
 use Rattle.model.specs.Work.{Reason, Out, Work, _>>=_, choose, fail, give, next}
-use Rattle.model.specs.Work.Reason.{sumTooLarge}
 use Rattle.model.specs.Work.Out.{gives, fails, badChoice, noChoice, stuck}
 use Rattle.model.specs.State.{MachineKind, State, Value, classed}
 use Rattle.model.specs.State.MachineKind.{plain, reduced}
@@ -209,7 +208,7 @@ module _ (ps : List ℕ) (m : MachineKind) (t : Table) (s : State) (S : Sound ps
     safe-rule w uintConstant a b c n f e ev ih = safe-uints _ w (f ∙ e) (safe-give tt)
     safe-rule w boolConstant a b c n f e ev ih = safe-bools _ w (f ∙ e) (safe-give tt)
     safe-rule w cell a b c n f e ev ih = safe-uints _ w (f .2 ∙ e) (safe-bind (ih pointer a (f .0) (f .1)) (safe-load (f .3)))
-    safe-rule w plus a b c n f e ev ih = safe-sum _ add (safe-add sumTooLarge) w (subst Moving e (f .3)) (ih w a (f .0) (f .2 ∙ e)) (ih uint b (f .1) (f .4))
+    safe-rule w plus a b c n f e ev ih = safe-sum _ add (safe-add _) w (subst Moving e (f .3)) (ih w a (f .0) (f .2 ∙ e)) (ih uint b (f .1) (f .4))
     safe-rule w minus a b c n f e ev ih = safe-sum _ subtract safe-subtract w (subst Moving e (f .3)) (ih w a (f .0) (f .2 ∙ e)) (ih uint b (f .1) (f .4))
     safe-rule w less a b c n f e ev ih = safe-bools _ w (f .4 ∙ e) (safe-compare ltb (ih uint a (f .0) (f .2)) (ih uint b (f .1) (f .3)))
     safe-rule w atMost a b c n f e ev ih = safe-bools _ w (f .4 ∙ e) (safe-compare leb (ih uint a (f .0) (f .2)) (ih uint b (f .1) (f .3)))

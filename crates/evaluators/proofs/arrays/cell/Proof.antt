@@ -4,7 +4,6 @@ use lib.ListN.{drop}
 use borrow.Author.Tests.{lt-ltb, le-ltb}
 use Rattle.model.specs.Table.Ty.{uint}
 use Rattle.evaluators.specs.CodeLeaves.{targetOut, loadOf}
-use Rattle.evaluators.specs.declared.answers.Reason.the-variants.{WithoutArray, PastLength}
 use Rattle.evaluators.proofs.AnswerLaws.{said-fails, said-stuck}
 use borrow.Author.Needs.{needs}
 use Rattle.evaluators.proofs.arrays.cell.Statement.{statement}
@@ -16,7 +15,7 @@ returns c =
     let g = c .before .before .before .before .before .before .before .args in
     let cs = drop (g .at) (g .list .now) in
     let x = c .before .before in
-    said-fails uint PastLength (rw (← x .before .before .pointed .ensures .found cs, x .x .given .1, le-ltb _ _ (c .if1 .taken)))
+    said-fails uint _ (rw (← x .before .before .pointed .ensures .found cs, x .x .given .1, le-ltb _ _ (c .if1 .taken)))
 
 returns-2 : tie.Need-returns-2
 unfolding loadOf targetOut
@@ -31,7 +30,7 @@ unfolding loadOf targetOut
 returns-3 c =
     let g = c .before .before .before .before .before .args in
     let cs = drop (g .at) (g .list .now) in
-    said-fails uint WithoutArray (rw (← c .before .before .pointed .ensures .found cs, c .enum-told .given .1))
+    said-fails uint _ (rw (← c .before .before .pointed .ensures .found cs, c .enum-told .given .1))
 
 returns-4 : tie.Need-returns-4
 unfolding loadOf targetOut
