@@ -1,7 +1,7 @@
 #!/usr/bin/env python3
 """Writes stdin and stdout of this program: the vectors for `pairrun`, whose layout is the program's own, and what must be printed of them.
 
-Run as: make_cases.py VECTORS, the folder of vectors, cases.bin, cases.expected and index.txt, which were handed out with the demands.
+Run as: make_cases.py VECTORS, the folder of vectors, cases.bin, cases.expected and index.txt, which were handed out with the demands and the requests.
 """
 import pathlib
 import struct

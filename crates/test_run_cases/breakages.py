@@ -124,41 +124,41 @@ broken(
     kinds={40},
 )
 
-SUM = "            if number > BIG:\n                raise failed(SUM)\n"
-DIFFERENCE = "            if number < 0:\n                raise failed(DIFFERENCE)\n"
+SUM_FAILS = "            if number > BIG:\n                raise failed(SUM)\n"
+DIFFERENCE_FAILS = "            if number < 0:\n                raise failed(DIFFERENCE)\n"
 for kind, name, wrong in (20, "a sum above 4,294,967,295", "number % 2**32"), (21, "a difference below 0", "number % 2**32"):
     for test, of in ("not isinstance(x, tuple)", "uints"), ("isinstance(x, tuple)", "places"):
         more = "            if kind == %d and %s:\n                number = %s\n" % (kind, test, wrong)
-        broken("2.%d" % (kind - 10), "%s of %s wraps" % (name, of), (SUM, more + SUM), kinds={kind})
+        broken("2.%d" % (kind - 10), "%s of %s wraps" % (name, of), (SUM_FAILS, more + SUM_FAILS), kinds={kind})
 for test, of in ("not isinstance(x, tuple)", "uints"), ("isinstance(x, tuple)", "places"):
     broken(
         "2.10",
         "a sum of %s that is 4,294,967,295 fails" % of,
-        (SUM, SUM.replace("number > BIG", "%s and number == BIG or number > BIG" % test)),
+        (SUM_FAILS, SUM_FAILS.replace("number > BIG", "%s and number == BIG or number > BIG" % test)),
         kinds={20},
     )
     broken(
         "2.11",
         "a difference of %s that is 0 fails" % of,
-        (DIFFERENCE, DIFFERENCE.replace("number < 0", "%s and kind == 21 and number == 0 or number < 0" % test)),
+        (DIFFERENCE_FAILS, DIFFERENCE_FAILS.replace("number < 0", "%s and kind == 21 and number == 0 or number < 0" % test)),
         kinds={21},
     )
     more = "            if %s:\n                number = max(number, 0)\n" % test
-    broken("2.11", "a difference of %s below 0 is 0" % of, (SUM, more + SUM), kinds={21})
+    broken("2.11", "a difference of %s below 0 is 0" % of, (SUM_FAILS, more + SUM_FAILS), kinds={21})
 NO_ARRAY_SUM = "            if isinstance(x, tuple) and x[0] == 0:\n                raise failed(NO_ARRAY)\n"
-broken("2.10", "a sum on a pointer with no array fails", (SUM, NO_ARRAY_SUM + SUM), kinds={20, 21})
+broken("2.10", "a sum on a pointer with no array fails", (SUM_FAILS, NO_ARRAY_SUM + SUM_FAILS), kinds={20, 21})
 broken(
     "2.10",
     "a sum past the end of an array fails",
     (
-        SUM,
-        "            if isinstance(x, tuple) and x[0] and number > self.array(state, x)[1]:\n                raise failed(PAST)\n" + SUM,
+        SUM_FAILS,
+        "            if isinstance(x, tuple) and x[0] and number > self.array(state, x)[1]:\n                raise failed(PAST)\n" + SUM_FAILS,
     ),
 )
 broken(
     "2.11",
     "21 is the difference of the other order",
-    (SUM, "            if kind == 21 and not isinstance(x, tuple):\n                number = y - x\n" + SUM),
+    (SUM_FAILS, "            if kind == 21 and not isinstance(x, tuple):\n                number = y - x\n" + SUM_FAILS),
     kinds={21},
 )
 
@@ -182,27 +182,27 @@ broken(
 )
 WRITTEN = "        if array is None:\n            raise failed(NO_ARRAY)\n        first, length, reduced = array\n"
 broken("2.19", "a write with no array is dropped", (WRITTEN, WRITTEN.replace("raise failed(NO_ARRAY)", "return")), kinds={34, 40})
-PAST = "        if place >= length:\n            raise failed(PAST)\n"
+WRITE_PAST = "        if place >= length:\n            raise failed(PAST)\n"
 broken(
     "2.19",
     "a write at the length is let through, array not reduced",
-    (PAST, PAST.replace("length:", "length + (not reduced):")),
+    (WRITE_PAST, WRITE_PAST.replace("length:", "length + (not reduced):")),
     kinds={34, 40},
 )
 broken(
     "3.18",
     "a write at the true length is let through, array reduced",
-    (PAST, PAST.replace("length:", "length + reduced:")),
+    (WRITE_PAST, WRITE_PAST.replace("length:", "length + reduced:")),
     kinds={40},
 )
 broken(
     "2.19",
     "a write at the last place fails, array not reduced",
-    (PAST, PAST.replace("length:", "length - (not reduced):")),
+    (WRITE_PAST, WRITE_PAST.replace("length:", "length - (not reduced):")),
     kinds={34, 40},
 )
-broken("3.18", "a write at the last place fails, array reduced", (PAST, PAST.replace("length:", "length - reduced:")), kinds={40})
-broken("2.19", "a write past the length is dropped", (PAST, PAST.replace("raise failed(PAST)", "return")), kinds={34, 40})
+broken("3.18", "a write at the last place fails, array reduced", (WRITE_PAST, WRITE_PAST.replace("length:", "length - reduced:")), kinds={40})
+broken("2.19", "a write past the length is dropped", (WRITE_PAST, WRITE_PAST.replace("raise failed(PAST)", "return")), kinds={34, 40})
 ALL_THE_SAME = (
     "        if place >= length:\n"
     "            self.cells[min(first + place, len(self.cells) - 1)] = v\n"
@@ -211,7 +211,7 @@ ALL_THE_SAME = (
 broken(
     "2.30",
     "a write past the length is made, and fails",
-    (PAST, ALL_THE_SAME),
+    (WRITE_PAST, ALL_THE_SAME),
     ("                    self.cells[:] = cells\n", "                    pass\n"),
     kinds={34, 40},
 )
@@ -270,7 +270,7 @@ broken("1.1", "17 drops the highest bit", ("            return a\n", "          
 
 # How a table runs: why a row failed
 
-for kind, name, text, right in (20, "sum", SUM, "SUM"), (21, "difference", DIFFERENCE, "DIFFERENCE"):
+for kind, name, text, right in (20, "sum", SUM_FAILS, "SUM"), (21, "difference", DIFFERENCE_FAILS, "DIFFERENCE"):
     for test, of in ("not isinstance(x, tuple)", "uints"), ("isinstance(x, tuple)", "places"):
         for wrong in "SUM", "DIFFERENCE", "NO_ARRAY", "PAST", "COUNTER":
             if wrong != right:
@@ -278,15 +278,15 @@ for kind, name, text, right in (20, "sum", SUM, "SUM"), (21, "difference", DIFFE
                 broken("2.36", "a %s of %s has the reason %s" % (name, of, wrong), (text, other), kinds={kind})
     other = text.replace("failed(%s)" % right, "failed(%s if isinstance(x, tuple) and x[0] == 0 else %s)" % ("NO_ARRAY", right))
     broken("2.36", "a %s of the place of a pointer with no array has the reason NO_ARRAY" % name, (text, other), kinds={kind})
-ONE_MORE = SUM.replace("failed(SUM)", "failed(COUNTER if y == 1 else SUM)")
-broken("2.36", "a sum with 1 has the reason COUNTER", (SUM, ONE_MORE), kinds={20})
+ONE_MORE = SUM_FAILS.replace("failed(SUM)", "failed(COUNTER if y == 1 else SUM)")
+broken("2.36", "a sum with 1 has the reason COUNTER", (SUM_FAILS, ONE_MORE), kinds={20})
 READ_PAST = READ + "            raise failed(PAST)\n"
 for what, old, right in ("a cell read with no array", NONE_TO_READ, "NO_ARRAY"), ("a cell read past the length", READ_PAST, "PAST"):
     for wrong in "SUM", "DIFFERENCE", "NO_ARRAY", "PAST", "COUNTER":
         if wrong != right:
             other = old.replace("failed(%s)" % right, "failed(%s)" % wrong)
             broken("2.36", "%s has the reason %s" % (what, wrong), (old, other), kinds={19, 28})
-for what, old, right in ("a write with no array", WRITTEN, "NO_ARRAY"), ("a write past the length", PAST, "PAST"):
+for what, old, right in ("a write with no array", WRITTEN, "NO_ARRAY"), ("a write past the length", WRITE_PAST, "PAST"):
     for wrong in "SUM", "DIFFERENCE", "NO_ARRAY", "PAST", "COUNTER":
         if wrong != right:
             other = old.replace("failed(%s)" % right, "failed(%s)" % wrong)
@@ -296,11 +296,11 @@ broken("2.36", "a read with no array goes by its place", (NONE_TO_READ, NONE_TO_
 broken("2.36", "a write with no array goes by its place", (WRITTEN, WRITTEN.replace("failed(NO_ARRAY)", BY_PLACE)), kinds={34, 40})
 BY_LENGTH = "failed(PAST if array[1] else NO_ARRAY)"
 broken("2.36", "an array of length 0 is none to read", (READ_PAST, READ_PAST.replace("failed(PAST)", BY_LENGTH)), kinds={19, 28})
-broken("2.36", "an array of length 0 is none to write", (PAST, PAST.replace("failed(PAST)", BY_LENGTH)), kinds={34, 40})
+broken("2.36", "an array of length 0 is none to write", (WRITE_PAST, WRITE_PAST.replace("failed(PAST)", BY_LENGTH)), kinds={34, 40})
 IF_REDUCED = READ_PAST.replace("PAST", "NO_ARRAY if array[2] else PAST")
 broken("2.36", "28 past the length of a reduced array has the reason NO_ARRAY", (READ_PAST, IF_REDUCED), kinds={28})
-IF_REDUCED = PAST.replace("PAST", "NO_ARRAY if reduced else PAST")
-broken("2.36", "40 past the length of a reduced array has the reason NO_ARRAY", (PAST, IF_REDUCED), kinds={40})
+IF_REDUCED = WRITE_PAST.replace("PAST", "NO_ARRAY if reduced else PAST")
+broken("2.36", "40 past the length of a reduced array has the reason NO_ARRAY", (WRITE_PAST, IF_REDUCED), kinds={40})
 STORED_EARLY = "            pointer = self.value(state, a)\n            if kind == 34 and %s:\n                raise failed(%s)\n"
 STORED_EARLY += "            self.write(state, pointer, self.value(state, b))"
 broken("2.38", "34 tests for an array before it works out its value", (STORED, STORED_EARLY % ("not pointer[0]", "NO_ARRAY")), kinds={34})
@@ -771,7 +771,7 @@ broken(
     (PLACE_OF, PLACE_OF.replace("if reduced", "if reduced and pointer[1] < length")),
     kinds={40},
 )
-broken("3.18", "40 fails by its place, not by its choice", (PAST, PAST.replace("place >=", "pointer[1] >=")), kinds={40}, stops=True)
+broken("3.18", "40 fails by its place, not by its choice", (WRITE_PAST, WRITE_PAST.replace("place >=", "pointer[1] >=")), kinds={40}, stops=True)
 broken(
     "3.18",
     "40 elsewhere writes the cell of its class",

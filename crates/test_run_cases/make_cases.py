@@ -667,8 +667,8 @@ def reasons_of_cells():
             nodes = [*FAILING, constant(place), variable(0), (20, 7, 6, 0), (19, 8, 0, 0), (26, 8, 0, 0)]
             fails_for(NO_ARRAY, [declaration, U, *nodes, (33, 1, 9, 0)])
             fails_for(NO_ARRAY, [declaration, *nodes, (34, 8, ONE, 0)])
-            both([declaration, B, *nodes, (33, 1, 10, 0), (36, 10, 0, 0)], 100)
             plain([declaration, B, *nodes, (33, 1, 10, 0), (36, 10, 0, 0)], 100, expect="assume row 1 steps 2")
+            reduced([declaration, B, *nodes, (33, 1, 10, 0), (36, 10, 0, 0)], 100, expect="assume row 1 steps 2")
             for length in ZERO, ONE, FIVE:
                 if place >= FAILING[length][1]:
                     made = [(37, 0, length, 0)]
@@ -676,10 +676,16 @@ def reasons_of_cells():
                     fails_for(PAST, [declaration, *nodes, *made, (34, 8, ONE, 0)])
                     plain([declaration, *nodes, *made, (36, 10, 0, 0)], 100, expect="assume row 1 steps 2")
                     reduced([declaration, *nodes, *made, (36, 10, 0, 0)], 100, expect="assume row 1 steps 2")
-    # 40 goes by its choice, which it takes where there is an array
-    lines = [MP, constant(5), variable(0), (20, 1, 0, 0), (37, 0, 0, 0), (34, 2, 0, 0)]
-    reduced(lines, 100, choices=[5], expect="fail reason 4 row 1 steps 2 choices 1")
-    reduced(lines, 100, choices=[4], expect="done row 2 steps 2 choices 1")
+    # 26 has the reason of a cell under it
+    nodes = [*FAILING, variable(0), variable(1), (20, 6, FIVE, 0), (19, 8, 0, 0), (20, 7, 9, 0), (26, 10, 0, 0)]
+    for first, second in (P, P), (P, MP), (MP, P), (MP, MP):
+        fails_for(NO_ARRAY, [first, second, *nodes, (35, 11, 0, 0)])
+        fails_for(PAST, [first, second, *nodes, (37, 0, FIVE, 0), (35, 11, 0, 0)])
+    # 40 goes by its choice, which it takes where there is an array: places 5 and 4 of 5, both in the last class
+    for place in (5, 4):
+        lines = [MP, constant(5), constant(place), variable(0), (20, 2, 1, 0), (37, 0, 0, 0), (34, 3, 0, 0)]
+        reduced(lines, 100, choices=[5], expect="fail reason 4 row 1 steps 2 choices 1")
+        reduced(lines, 100, choices=[4], expect="done row 2 steps 2 choices 1")
     reduced(lines[:-2] + lines[-1:], 100, choices=[4], expect="fail reason 3 row 0 steps 1 choices 0")
 
 
@@ -691,9 +697,9 @@ def reasons_of_counters():
         # a sum in the loop has 1, also one that is the same
         lines = [declaration, U, *FAILING, variable(0), (20, 6, ONE, 0), *loop(0, LARGEST, LARGEST, (33, 1, 7, 0))]
         fails_for(SUM, lines, row=1)
-    # the inner loop's, then the outer loop's
-    around = [U, U, *FAILING, *loop(0, ZERO, ONE, *loop(1, LARGEST, LARGEST))]
-    fails_for(COUNTER, around, row=2, steps=3)
+    # the inner loop's, and the outer loop's past an inner one that is not entered
+    fails_for(COUNTER, [U, U, *FAILING, *loop(0, ZERO, ONE, *loop(1, LARGEST, LARGEST))], row=2, steps=3)
+    fails_for(COUNTER, [U, U, *FAILING, *loop(0, LARGEST, LARGEST, *loop(1, ONE, ZERO))], row=3, steps=3)
     lines = [U, *FAILING, *loop(0, ZERO, FIVE, SKIP)]
     for start, end, ended in (BIG, BIG, "fail reason 5 row 2 steps 2"), (BIG - 1, BIG, "fail reason 5 row 2 steps 4"):
         plain(lines, 1, (9, [(START, 0, start), (END, 0, end)]), expect=ended)

@@ -46,14 +46,15 @@ countOf (Moves x n) = n
 countOf (Ends e n) = n
 countOf (Not why n) = n
 
--- A row that does not go on, after n steps, with the numbers up to `at` written: it counts, and so do they (rule 2.29).
--- A plain step takes no choice and is never stuck, and none that goes on is asked of, so what stands for those is never handed back.
+-- The end of a row that failed (rule 2.37). A plain step takes no choice and is never stuck, so what stands for those is never handed back.
 abbrev pub failedEnd : Failure → End
-failedEnd (Fails why) = Code.Fail why
+failedEnd (Fails reason) = Code.Fail reason
 failedEnd BadChoice = Code.OutOfSteps
 failedEnd NoChoice = Code.OutOfSteps
 failedEnd Stuck = Code.OutOfSteps
 
+-- A row that does not go on, after n steps, with the numbers up to `at` written: it counts, and so do they (rule 2.29). None that goes on is
+-- asked of, so what stands for it is never handed back.
 abbrev pub stoppedOf : Worked → ℕ → ℕ → Machine → Ran
 stoppedOf (Moves x next) n at m = ran Code.OutOfSteps (suc n) at m
 stoppedOf (Ends e next) n at m = ran e (suc n) at m

@@ -1,12 +1,12 @@
 -- Demand 3.
 -- Assumes nothing.
-use Prim.Native.Nat.{ℕ, _+_, _<_}
 use native.Mathlib.Omega.{arith}
 use Rattle.model.specs.Class.{pair}
 use Rattle.choices.proofs.Demand3Proof.{demand-3}
 use Rattle.pair.proofs.PairPromises.{lines-match}
 use Rattle.demands.specs.Demand3.{Demand3}
-use Rattle.demands.proofs.ReasonsProof.{pair-passes, matching-reasons}
+use Rattle.demands.proofs.RefusalLaws.{pair-passes}
+use Rattle.demands.proofs.ReasonsProof.{matching-reasons}
 
 pub demand3 : Demand3
 demand3 = record {

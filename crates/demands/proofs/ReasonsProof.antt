@@ -1,17 +1,15 @@
 -- Why a row failed: matching ends have equal reasons, by demand 3; which reasons there are, by the model.
 -- Assumes nothing.
 use mathlib.Core.Path.{_≡_, refl, sym, ap, _∙_, subst}
-use Prim.Native.Nat.{ℕ, _+_, _-_, _<_}
+use Prim.Native.Nat.{ℕ}
 use native.Mathlib.Omega.{arith}
 use mathlib.Core.Bool.{false}
-use mathlib.Core.List.{List, [], _∷_, _++_}
-use lib.ListN.{length, getD, drop}
-use borrow.Author.Tests.{lt-ltb}
+use mathlib.Core.List.{List, [], _++_}
+use lib.ListN.{length, drop}
 use Rattle.table.specs.declared.Verdict.{Verdict}
 use Rattle.table.specs.declared.Verdict.the-variants.{Passes, Refused}
 use Rattle.model.specs.Class.{pair}
-use Rattle.model.specs.Work.{Reason, reasonNumber}
-use Rattle.model.specs.Work.Reason.{sumTooLarge, belowZero, withoutArray, pastLength, counterTooLarge}
+use Rattle.model.specs.Work.{Reason}
 use Rattle.model.specs.Step.{End, Report}
 use Rattle.model.specs.Step.End.{failed}
 use Rattle.model.specs.Step.Report.{ended, noEnd}
@@ -19,20 +17,15 @@ use Rattle.model.specs.Demand3.{isWant, wantsCells, plainRun, choiceList}
 use Rattle.model.specs.State.{State, cellCount}
 use Rattle.model.specs.State.MachineKind.{plain, reduced}
 use Rattle.model.specs.Writer.{withNumbers}
-use Rattle.model.proofs.PairLaws.{pair-accepted}
-use Rattle.model.proofs.ReasonLaws.{nodes-have-four, others-have-four, closing-has-one, valid-never}
-use Rattle.reduction.specs.Reduction.{placesCheck}
+use Rattle.model.proofs.ReasonLaws.{nodes-never-counter, others-never-counter, closing-only-counter, valid-fails-as-operand}
 use Rattle.runs.specs.Checks.{runChecks}
 use Rattle.runs.specs.Answers.{Said, saidBy, ranSaid, freshSaid}
 use Rattle.runs.specs.Answers.Said.{reports}
 use Rattle.choices.specs.Answers.Said.{writes}
 use Rattle.choices.specs.Demand3.{Demand3}
 use Rattle.choices.proofs.Demand3Proof.{demand-3}
-use Rattle.demands.specs.Reasons.{RunFails, WriterFails, SameReason, MatchingReasons, Numbered, Reasons}
-
--- the check of a pair is that a number stands between
-pub pair-passes : (c1 c2 : ℕ) → c1 + 1 < c2 → placesCheck (pair c1 c2) ≡ Passes
-pair-passes c1 c2 h = rw (pair-accepted c1 c2 ∙ lt-ltb (c1 + 1) c2 h)
+use Rattle.demands.specs.Reasons.{RunFails, WriterFails, SameReason, MatchingReasons, Reasons}
+use Rattle.demands.proofs.RefusalLaws.{pair-passes}
 
 -- a plain run that failed did not end for want of cells
 no-want : (v : Verdict) (cells : List ℕ) (r : Report) (why : Reason) → RunFails why (saidBy v cells (ranSaid [] r)) → wantsCells r ≡ false
@@ -88,32 +81,12 @@ pub matching-reasons : MatchingReasons
 matching-reasons c1 c2 h P pass limit cells reducedCells hp hr why =
     same-reason (pair c1 c2) P (demand-3 (pair c1 c2) (pair-passes c1 c2 (omega (arith, h))) P pass) limit cells reducedCells hp hr why
 
--- ---- the numbers
-number-within : (why : Reason) → Numbered why
-number-within sumTooLarge = (omega arith, omega arith)
-number-within belowZero = (omega arith, omega arith)
-number-within withoutArray = (omega arith, omega arith)
-number-within pastLength = (omega arith, omega arith)
-number-within counterTooLarge = (omega arith, omega arith)
-
--- the reason of a number
-abbrev numbered : ℕ → Reason
-numbered n = getD (sumTooLarge ∷ belowZero ∷ withoutArray ∷ pastLength ∷ counterTooLarge ∷ []) (n - 1) sumTooLarge
-
-numbered-is : (why : Reason) → numbered (reasonNumber why) ≡ why
-numbered-is sumTooLarge = refl
-numbered-is belowZero = refl
-numbered-is withoutArray = refl
-numbered-is pastLength = refl
-numbered-is counterTooLarge = refl
-
 pub reasons : Reasons
 reasons = record {
-  numbers = number-within;
-  apart = λ why other e. sym (numbered-is why) ∙ ap numbered e ∙ numbered-is other;
+  numbers = refl;
   matching = matching-reasons;
-  nodes = nodes-have-four;
-  others = others-have-four;
-  closing = closing-has-one;
-  validity = valid-never;
+  nodes = nodes-never-counter;
+  others = others-never-counter;
+  closing = closing-only-counter;
+  validity = valid-fails-as-operand;
 }

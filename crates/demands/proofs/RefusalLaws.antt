@@ -1,13 +1,14 @@
 -- Laws of refusals: a check refuses with a number of its own list, and one check after another with one of both lists.
 -- Assumes nothing.
-use mathlib.Core.Path.{_≡_, refl}
+use mathlib.Core.Path.{_≡_, refl, _∙_}
 use mathlib.Core.Logic.{inl, inr}
-use Prim.Native.Nat.{ℕ, _/_, _%_, _<_}
+use Prim.Native.Nat.{ℕ, _+_, _/_, _%_, _<_}
 use native.Mathlib.Omega.{arith}
 use mathlib.Core.Bool.{Bool, true, false}
 use mathlib.Core.List.{List, [], _∷_, _++_, map}
 use lib.ListN.{length}
 use lib.Dec.{eqb}
+use borrow.Author.Tests.{lt-ltb}
 use Rattle.lists.specs.If.{if_then_else_}
 use Rattle.lists.specs.First.{first}
 use Rattle.lists.specs.declared.Found.{Found}
@@ -17,7 +18,8 @@ use Rattle.table.specs.declared.Verdict.{Verdict}
 use Rattle.table.specs.declared.Verdict.the-variants.{Passes, Refused}
 use Rattle.table.specs.Checks.{breaks, order, refusedAtLine, firstRefusal, tableCheck, andThen, sizeCheck}
 use Rattle.reduction.specs.Reduction.{placesCheck}
-use Rattle.model.specs.Class.{acceptedPlaces}
+use Rattle.model.specs.Class.{acceptedPlaces, pair}
+use Rattle.model.proofs.PairLaws.{pair-accepted}
 use Rattle.model.specs.Table.{Table, tableOf}
 use Rattle.model.specs.State.{MachineKind, State}
 use Rattle.runs.specs.Record.{recordFits, recordCheck}
@@ -106,3 +108,7 @@ record-checked m ps t s n = go (recordFits m ps t s)
     go : (b : Bool) → Checked recordNumbers n (if b then Passes else Refused 15 0)
     go true = tt
     go false = inl (refl, omega arith)
+
+-- ---- the check of a pair is that a number stands between
+pub pair-passes : (c1 c2 : ℕ) → c1 + 1 < c2 → placesCheck (pair c1 c2) ≡ Passes
+pair-passes c1 c2 h = rw (pair-accepted c1 c2 ∙ lt-ltb (c1 + 1) c2 h)

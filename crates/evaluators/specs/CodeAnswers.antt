@@ -19,7 +19,7 @@ use Rattle.evaluators.specs.declared.answers.Answer.the-variants.{Bool a
 
 -- ---- why there is no value, with the cursor at `at` into the list l
 unfoldable pub failed : {A : Type 0} → List ℕ → ℕ → Failure → Out A
-failed l at (Fails why) = fails (reasonOf why) (drop at l)
+failed l at (Fails reason) = fails (reasonOf reason) (drop at l)
 failed l at BadChoice = badChoice
 failed l at NoChoice = noChoice
 failed l at Stuck = stuck

@@ -26,10 +26,10 @@ pub enum Reason {
 }
 
 // The number of a reason.
-pub fn reason_number(why: Reason) -> u32
-    ensures { λ r. ⌜ r ≡ reasonNumber (reasonOf why) ⌝ }
+pub fn reason_number(reason: Reason) -> u32
+    ensures { λ r. ⌜ r ≡ reasonNumber (reasonOf reason) ⌝ }
 {
-    match why {
+    match reason {
         Reason::SumTooLarge => 1,
         Reason::BelowZero => 2,
         Reason::WithoutArray => 3,

@@ -19,7 +19,7 @@ abbrev pub endOf : End → ModelEnd
 endOf Code.Done = done
 endOf Code.AssertFalse = assertFalse
 endOf Code.AssumeFalse = assumeFalse
-endOf (Code.Fail why) = failed (reasonOf why)
+endOf (Code.Fail reason) = failed (reasonOf reason)
 endOf Code.WantOfCells = wantOfCells
 endOf Code.OutOfSteps = outOfSteps
 endOf Code.ChoiceNotAllowed = choiceNotAllowed

@@ -137,8 +137,8 @@ any-bools bool x = x
 any-bools uint x = keeps-wrong
 any-bools pointer x = keeps-wrong
 
-any-add : (why : Reason) (x y : ℕ) → Keeps Any (sumOr why x y)
-any-add why x y = keeps-if (leb (x + y) most) (λ _. keeps-give tt) (λ _. keeps-fail)
+any-sumOr : (why : Reason) (x y : ℕ) → Keeps Any (sumOr why x y)
+any-sumOr why x y = keeps-if (leb (x + y) most) (λ _. keeps-give tt) (λ _. keeps-fail)
 
 any-subtract : (x y : ℕ) → Keeps Any (subtract x y)
 any-subtract x y = keeps-if (leb y x) (λ _. keeps-give tt) (λ _. keeps-fail)
@@ -184,7 +184,7 @@ module _ (ps : List ℕ) (s : Contents) where
   any-rule w uintConstant a b c ih = any-uints w (keeps-give tt)
   any-rule w boolConstant a b c ih = any-bools w (keeps-give tt)
   any-rule w cell a b c ih = any-uints w (any-bind (ih pointer a) (any-load ps (s .arrays) (s .cells)))
-  any-rule w plus a b c ih = any-sum add (any-add _) w (ih w a) (ih uint b)
+  any-rule w plus a b c ih = any-sum add (any-sumOr _) w (ih w a) (ih uint b)
   any-rule w minus a b c ih = any-sum subtract any-subtract w (ih w a) (ih uint b)
   any-rule w less a b c ih = any-bools w (any-compare ltb (ih uint a) (ih uint b))
   any-rule w atMost a b c ih = any-bools w (any-compare leb (ih uint a) (ih uint b))
@@ -312,7 +312,7 @@ module _ (ps : List ℕ) (m : MachineKind) (t : Table) where
     keeps-repeat [] e g = keeps-wrong
     keeps-repeat (l ∷ ls) e g =
         let c : Chain t (l .row ∷ loopRows ls) = subst (Chain t) (sym e) (chain t (s .here .row) (omega arith)) in
-        keeps-bind (any-add _ (l .start) 1)
+        keeps-bind (any-sumOr _ (l .start) 1)
         (λ x _. keeps-loop (withLoops s ls) (regular-here s R (position _ ls) (g .1)) (l .row) (rowKind (rowAt t (l .row) .kind))
             (rows-fit m t A (l .row) (c .0)) x
             (l .end) (keeps-give tt))

@@ -108,8 +108,8 @@ module _ {m : MachineKind} {F : ℕ → Type 0} where
   match-ofType uint v h = match-asUint v h
   match-ofType pointer v h = match-asPointer v h
 
-  pub match-add : {t : Table} → Closed F t → (why : Reason) (x y : ℕ) → Match m F F (sumOr why x y) (sumOr why x y) []
-  match-add C why x y = go (leb (x + y) most) refl
+  pub match-sumOr : {t : Table} → Closed F t → (why : Reason) (x y : ℕ) → Match m F F (sumOr why x y) (sumOr why x y) []
+  match-sumOr C why x y = go (leb (x + y) most) refl
     where
       go : (b : Bool) → leb (x + y) most ≡ b → Match m F F (if b then give (x + y) else fail why) (if b then give (x + y) else fail why) []
       go true e = match-give (C .sum x y (leb-true (x + y) most e))
@@ -288,7 +288,7 @@ module _ {m : MachineKind} {F : ℕ → Type 0} {ps : List ℕ} {extra : Extra} 
   match-rule w boolConstant h a b c k ih = match-bools w (match-give tt)
   match-rule w cell h a b c k {ev} ih =
       matches-are (cell-acts fs (contentsOf p) w a b c ev m first-flat) refl (match-uints w (match-bind (ih pointer a) match-load))
-  match-rule w plus h a b c k ih = match-sumOrDifference add (λ x y _. match-add C _ x y) w (ih w a) (ih uint b)
+  match-rule w plus h a b c k ih = match-sumOrDifference add (λ x y _. match-sumOr C _ x y) w (ih w a) (ih uint b)
   match-rule w minus h a b c k ih = match-sumOrDifference subtract (match-subtract C) w (ih w a) (ih uint b)
   match-rule w less h a b c k ih = match-bools w (match-compare ltb (ih uint a) (ih uint b))
   match-rule w atMost h a b c k ih = match-bools w (match-compare leb (ih uint a) (ih uint b))

@@ -33,7 +33,7 @@ use Rattle.model.proofs.Memory.{inside}
 use Rattle.model.proofs.KindsIn.{PlainRow, TableIn, rowIn, same-end, storeIn}
 use Rattle.model.proofs.Linked.{AlsoMarked, Extra, FitLoops, FitOf, FitValue, Linked, LinkedMemory, Related, Tight, onlySecond}
 use Rattle.model.proofs.Keep.{cleared-fits, index-in, kept-also, memory-drop, memory-new, memory-write, set-fits, size-also, vars-set}
-use Rattle.model.proofs.MatchEval.{Flat, first-flat, match-add, match-evalF, never-plain, no-places, same-places}
+use Rattle.model.proofs.MatchEval.{Flat, first-flat, match-sumOr, match-evalF, never-plain, no-places, same-places}
 
 -- two moves: to states that are related, or to one end. A first run that ends for want of cells is not compared; a second may end so, unless
 -- it has enough for each array
@@ -226,7 +226,7 @@ module _ {m : MachineKind} {F : ℕ → Type 0} (ps : List ℕ) (extra : Extra) 
         → Matches m F (Moves extra (L ks)) (repeatLoop fs v p ls) (repeatLoop ps u r ls) (repeatChoices ps t ks p ls)
     match-repeat A [] k = matches-wrong
     match-repeat {p} {r} A (l ∷ ls) k =
-        match-bind (match-add (R .closed) _ (l .start) 1)
+        match-bind (match-sumOr (R .closed) _ (l .start) 1)
         (λ x fx. rw (R .first .kind (l .row), R .second .kind (l .row))
         (match-loop (linked-here A (ap (λ (h : Position). position (h .row) ls) (A .here)) (k .2)) (l .row) (rowKind (rowAt t (l .row) .kind))
             (R .kinds .row (l .row)) x (l .end) fx (k .1)

@@ -1,7 +1,7 @@
 -- Which reasons a node and a row can have: parts that never fail do so for a reason with any property.
 -- Assumes nothing.
-use mathlib.Core.Path.{_≡_, refl, sym, subst}
-use mathlib.Core.Logic.{_≢_}
+use mathlib.Core.Path.{_≡_, refl, sym, ap, _∙_, subst}
+use mathlib.Core.Logic.{_≢_, ⊎-elim}
 use Prim.Native.Nat.{ℕ, zero, suc, _+_}
 use native.Mathlib.Omega.{arith}
 use mathlib.Core.Bool.{Bool, true, false}
@@ -25,7 +25,8 @@ use Rattle.model.specs.Eval.{isValid, keeps, load, ofType, present, redu
 use Rattle.model.specs.Step.{addArray, enter, loopAt, newArray, node, pastEnd, put, reducedWrite, repeatLoop, rowRule, setVar, step, stepAt}
 use Rattle.model.specs.Step.{past, withLoops, write}
 use Rattle.model.specs.Step.Move.{to}
-use Rattle.model.specs.Reasons.{FailsFor, ValidNeverFails, NodesHaveFour, kindHere, ClosingHasOne, OthersHaveFour}
+use Rattle.model.proofs.EvalLaws.{eval-is}
+use Rattle.model.specs.Reasons.{FailsFor, ValidFailsAsOperand, NodesNeverCounter, kindHere, ClosingOnlyCounter, OthersNeverCounter}
 
 -- whatever the choices, what fails does so for a reason with the property
 record For {A : Type 0} (P : Reason → Type 0) (w : Work A) : Type 0 where
@@ -143,48 +144,76 @@ module _ {P : Reason → Type 0} where
   end-for : (t : Table) (r : ℕ) → For P (pastEnd t r)
   end-for t r = if-for (ltb (matchingEnd t r) (t .rows)) give-for wrong-for
 
-pub valid-never : ValidNeverFails
-valid-never rs r p cs = valid-for rs r p .failsFor cs
+-- a failure, as one of a pointer
+abbrev failure : Out Bool → Out Ptr
+failure (gives b cs) = stuck
+failure (fails why cs) = fails why cs
+failure badChoice = badChoice
+failure noChoice = noChoice
+failure stuck = stuck
+
+-- 26 or 29, of what its operand came to
+module _ (rs : List Array) (why : Reason) (left : List ℕ) where
+  as-operand : (o : Out Ptr) → next (next o (λ p. isValid rs (p .array) (p .place))) (present (length rs) bool) ≡ fails why left → o ≡ fails why left
+  as-operand (gives p cs) e =
+      absurd (subst (FailsFor (λ why. ⊥)) e (then-for (valid-for rs (p .array) (p .place)) (present-for (length rs) bool) .failsFor cs))
+  as-operand (fails why′ cs) e = ap failure e
+  as-operand badChoice e = ap failure e
+  as-operand noChoice e = ap failure e
+  as-operand stuck e = ap failure e
+
+pub valid-fails-as-operand : ValidFailsAsOperand
+unfolding rule
+valid-fails-as-operand ps s t n k why cs left e = as-operand (s .arrays) why left _ (⊎-elim (λ h. by h refl) (λ h. by h refl) k)
+  where
+    operands : (v : Ty) → ℕ → Work (Of v)
+    operands = below n (eval ps s t)
+
+    ruledBy : Node → Out Bool
+    ruledBy k = next (rule ps s bool k (nodeAt t n .a) (nodeAt t n .b) (nodeAt t n .c) operands cs) (present (length (s .arrays)) bool)
+
+    by : {k : Node} {o : Out Bool} → nodeKind (nodeAt t n .kind) ≡ k → ruledBy k ≡ o → o ≡ fails why left
+    by h q = sym q ∙ ap ruledBy (sym h) ∙ sym (ap (λ (f : Work Bool). f cs) (eval-is ps s t bool n)) ∙ e
 
 -- ---- what fails for another reason than the counter's
-abbrev Four : Reason → Type 0
-Four why = why ≢ counterTooLarge
+abbrev Other : Reason → Type 0
+Other why = why ≢ counterTooLarge
 
-other : (why : Reason) → reasonNumber why ≢ 5 → Four why
-other why h e = h (let z : reasonNumber why ≡ 5 = cc in z)
+other-than : (why : Reason) → reasonNumber why ≢ 5 → Other why
+other-than why h e = h (let z : reasonNumber why ≡ 5 = cc in z)
 
-sum-for : (x y : ℕ) → For Four (add x y)
-sum-for x y = if-for (leb (x + y) most) give-for (fail-for (other _ (λ e. omega arith)))
+sum-for : (x y : ℕ) → For Other (add x y)
+sum-for x y = if-for (leb (x + y) most) give-for (fail-for (other-than _ (λ e. omega arith)))
 
-difference-for : (x y : ℕ) → For Four (subtract x y)
-difference-for x y = if-for (leb y x) give-for (fail-for (other _ (λ e. omega arith)))
+difference-for : (x y : ℕ) → For Other (subtract x y)
+difference-for x y = if-for (leb y x) give-for (fail-for (other-than _ (λ e. omega arith)))
 
-array-for : (rs : List Array) (r : ℕ) → For Four (arrayOf rs r)
-array-for rs zero = fail-for (other _ (λ e. omega arith))
+array-for : (rs : List Array) (r : ℕ) → For Other (arrayOf rs r)
+array-for rs zero = fail-for (other-than _ (λ e. omega arith))
 array-for rs (suc i) = if-for (ltb i (length rs)) give-for wrong-for
 
-past-for : {A : Type 0} → For Four (fail {A = A} pastLength)
-past-for = fail-for (other pastLength (λ e. omega arith))
+past-for : {A : Type 0} → For Other (fail {A = A} pastLength)
+past-for = fail-for (other-than pastLength (λ e. omega arith))
 
-moved-for : (op : ℕ → ℕ → Work ℕ) → ((x y : ℕ) → For Four (op x y)) → (w : Ty) {x : Work (Of w)} {y : Work ℕ} → For Four x → For Four y
-    → For Four (sumOrDifference op w x y)
+moved-for : (op : ℕ → ℕ → Work ℕ) → ((x y : ℕ) → For Other (op x y)) → (w : Ty) {x : Work (Of w)} {y : Work ℕ} → For Other x → For Other y
+    → For Other (sumOrDifference op w x y)
 moved-for op h bool x y = wrong-for
 moved-for op h uint x y = then-for x (λ a. then-for y (λ b. h a b))
 moved-for op h pointer x y = then-for x (λ p. then-for y (λ b. then-for (h (p .place) b) (λ z. give-for)))
 
-compare-for : (test : ℕ → ℕ → Bool) {x y : Work ℕ} → For Four x → For Four y → For Four (compare test x y)
+compare-for : (test : ℕ → ℕ → Bool) {x y : Work ℕ} → For Other x → For Other y → For Other (compare test x y)
 compare-for test x y = then-for x (λ a. then-for y (λ b. give-for))
 
 module _ (ps : List ℕ) where
-  load-for : (rs : List Array) (cells : List ℕ) (p : Ptr) → For Four (load ps rs cells p)
+  load-for : (rs : List Array) (cells : List ℕ) (p : Ptr) → For Other (load ps rs cells p)
   load-for rs cells p = then-for (array-for rs (p .array)) (λ r. if-for (ltb (p .place) (r .len)) (cell-for ps cells r (p .place)) past-for)
 
-  reduced-for : (rs : List Array) (cells : List ℕ) (p : Ptr) → For Four (reducedLoad ps rs cells p)
+  reduced-for : (rs : List Array) (cells : List ℕ) (p : Ptr) → For Other (reducedLoad ps rs cells p)
   reduced-for rs cells p = then-for (array-for rs (p .array))
       (λ r. if-for (ltb (p .place) (r .len)) (if-for (keeps ps r (p .place)) (cell-for ps cells r _) (choose-for _)) past-for)
 
   module _ (s : Contents) where
-    rule-for : (w : Ty) (k : Node) (a b c : ℕ) {ev : (v : Ty) → ℕ → Work (Of v)} → ((v : Ty) (n : ℕ) → For Four (ev v n)) → For Four (rule ps s w k a b c ev)
+    rule-for : (w : Ty) (k : Node) (a b c : ℕ) {ev : (v : Ty) → ℕ → Work (Of v)} → ((v : Ty) (n : ℕ) → For Other (ev v n)) → For Other (rule ps s w k a b c ev)
     unfolding rule
     rule-for w variable a b c ih = then-for (variable-for (s .vars) a) (type-for w)
     rule-for w uintConstant a b c ih = uints-for w give-for
@@ -202,37 +231,37 @@ module _ (ps : List ℕ) where
     rule-for w reducedValid a b c ih = bools-for w (then-for (ih pointer a) (λ p. valid-for (s .arrays) (p .array) (p .place)))
     rule-for w noNode a b c ih = wrong-for
 
-    below-for : (n : ℕ) {ev : (v : Ty) → ℕ → Work (Of v)} → ((v : Ty) (j : ℕ) → For Four (ev v j)) → (w : Ty) (j : ℕ) → For Four (below n ev w j)
+    below-for : (n : ℕ) {ev : (v : Ty) → ℕ → Work (Of v)} → ((v : Ty) (j : ℕ) → For Other (ev v j)) → (w : Ty) (j : ℕ) → For Other (below n ev w j)
     below-for n ih w j = if-for (ltb j n) (ih w j) wrong-for
 
-    evalF-for : (t : Table) (f : ℕ) (w : Ty) (n : ℕ) → For Four (evalF ps s t f w n)
+    evalF-for : (t : Table) (f : ℕ) (w : Ty) (n : ℕ) → For Other (evalF ps s t f w n)
     unfolding evalF
     evalF-for t zero w n = wrong-for
     evalF-for t (suc f) w n =
         then-for (rule-for w (nodeKind (nodeAt t n .kind)) (nodeAt t n .a) (nodeAt t n .b) (nodeAt t n .c) (below-for n (evalF-for t f)))
         (present-for (length (s .arrays)) w)
 
-    eval-for : (t : Table) (w : Ty) (n : ℕ) → For Four (eval ps s t w n)
+    eval-for : (t : Table) (w : Ty) (n : ℕ) → For Other (eval ps s t w n)
     unfolding eval
     eval-for t w n = evalF-for t (suc n) w n
 
-pub nodes-have-four : NodesHaveFour
-nodes-have-four ps s t w n cs = eval-for ps s t w n .failsFor cs
+pub nodes-never-counter : NodesNeverCounter
+nodes-never-counter ps s t w n cs = eval-for ps s t w n .failsFor cs
 
 -- ---- rows
 module _ (ps : List ℕ) (t : Table) (s : State) where
-  write-for : (p : Ptr) (x : ℕ) → For Four (write ps s p x)
+  write-for : (p : Ptr) (x : ℕ) → For Other (write ps s p x)
   write-for p x = then-for (array-for (s .arrays) (p .array)) (λ r. if-for (ltb (p .place) (r .len)) (put-for ps s r (p .place) x) past-for)
 
-  reducedWrite-for : (p : Ptr) (x : ℕ) → For Four (reducedWrite ps s p x)
+  reducedWrite-for : (p : Ptr) (x : ℕ) → For Other (reducedWrite ps s p x)
   reducedWrite-for p x = then-for (array-for (s .arrays) (p .array))
       (λ r. then-for (if-for (r .reduced) (choose-for _) give-for)
       (λ v. if-for (ltb v (r .len)) (if-for (keeps ps r v) (put-for ps s r (indexOf ps r v) x) give-for) past-for))
 
-  node-for : (w : Ty) (n : ℕ) → For Four (node ps t s w n)
+  node-for : (w : Ty) (n : ℕ) → For Other (node ps t s w n)
   node-for w n = below-for ps (contentsOf s) (t .nodes) (eval-for ps (contentsOf s) t) w n
 
-  row-for : (n : ℕ) (k : Row) (a b c : ℕ) → k ≢ loopEnd → For Four (rowRule ps t s n k a b c)
+  row-for : (n : ℕ) (k : Row) (a b c : ℕ) → k ≢ loopEnd → For Other (rowRule ps t s n k a b c)
   unfolding rowRule
   row-for n skip a b c h = give-for
   row-for n assign a b c h = then-for (node-for (typeAt t a) b) (λ x. then-for (set-for s a (value (typeAt t a) x)) (λ s′. give-for {a = to (past s′)}))
@@ -258,10 +287,10 @@ module _ (ps : List ℕ) (t : Table) (s : State) where
   closing-for n k a b c e =
       subst (λ (k : Row). For (λ why. why ≡ counterTooLarge) (rowRule ps t s n k a b c)) (sym e) (repeat-for (s .here .loops))
 
-pub others-have-four : OthersHaveFour
+pub others-never-counter : OthersNeverCounter
 unfolding step stepAt
-others-have-four ps t s cs h = row-for ps t s (s .here .row) (kindHere t s) _ _ _ h .failsFor cs
+others-never-counter ps t s cs h = row-for ps t s (s .here .row) (kindHere t s) _ _ _ h .failsFor cs
 
-pub closing-has-one : ClosingHasOne
+pub closing-only-counter : ClosingOnlyCounter
 unfolding step stepAt
-closing-has-one ps t s cs h = closing-for ps t s (s .here .row) (kindHere t s) _ _ _ h .failsFor cs
+closing-only-counter ps t s cs h = closing-for ps t s (s .here .row) (kindHere t s) _ _ _ h .failsFor cs

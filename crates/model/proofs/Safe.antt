@@ -160,8 +160,8 @@ module _ {m : MachineKind} where
   safe-compare : (test : ℕ → ℕ → Bool) {x y : Work ℕ} → Safe m (λ x. Unit {0}) x → Safe m (λ x. Unit {0}) y → Safe m (λ x. Unit {0}) (compare test x y)
   safe-compare test x y = safe-bind x (λ a _. safe-bind y (λ b _. safe-give tt))
 
-  pub safe-add : (why : Reason) (x y : ℕ) → Safe m (λ z. Unit {0}) (sumOr why x y)
-  safe-add why x y = safe-if (leb (x + y) most) (λ e. safe-give tt) (λ e. safe-fail)
+  pub safe-sumOr : (why : Reason) (x y : ℕ) → Safe m (λ z. Unit {0}) (sumOr why x y)
+  safe-sumOr why x y = safe-if (leb (x + y) most) (λ e. safe-give tt) (λ e. safe-fail)
 
   safe-subtract : (x y : ℕ) → Safe m (λ z. Unit {0}) (subtract x y)
   safe-subtract x y = safe-if (leb y x) (λ e. safe-give tt) (λ e. safe-fail)
@@ -208,7 +208,7 @@ module _ (ps : List ℕ) (m : MachineKind) (t : Table) (s : State) (S : Sound ps
     safe-rule w uintConstant a b c n f e ev ih = safe-uints _ w (f ∙ e) (safe-give tt)
     safe-rule w boolConstant a b c n f e ev ih = safe-bools _ w (f ∙ e) (safe-give tt)
     safe-rule w cell a b c n f e ev ih = safe-uints _ w (f .2 ∙ e) (safe-bind (ih pointer a (f .0) (f .1)) (safe-load (f .3)))
-    safe-rule w plus a b c n f e ev ih = safe-sum _ add (safe-add _) w (subst Moving e (f .3)) (ih w a (f .0) (f .2 ∙ e)) (ih uint b (f .1) (f .4))
+    safe-rule w plus a b c n f e ev ih = safe-sum _ add (safe-sumOr _) w (subst Moving e (f .3)) (ih w a (f .0) (f .2 ∙ e)) (ih uint b (f .1) (f .4))
     safe-rule w minus a b c n f e ev ih = safe-sum _ subtract safe-subtract w (subst Moving e (f .3)) (ih w a (f .0) (f .2 ∙ e)) (ih uint b (f .1) (f .4))
     safe-rule w less a b c n f e ev ih = safe-bools _ w (f .4 ∙ e) (safe-compare ltb (ih uint a (f .0) (f .2)) (ih uint b (f .1) (f .3)))
     safe-rule w atMost a b c n f e ev ih = safe-bools _ w (f .4 ∙ e) (safe-compare leb (ih uint a (f .0) (f .2)) (ih uint b (f .1) (f .3)))

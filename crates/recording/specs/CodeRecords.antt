@@ -63,7 +63,7 @@ placedAt (Not why i) at = Not why at
 
 -- the buffer and the place after the numbers are p; a row that comes to no end leaves them free
 unfoldable pub ReachedBy : Failure → ℕ → List ℕ → Pushed → Type 0
-ReachedBy (Fails why) at out p = pushed out at ≡ p
+ReachedBy (Fails reason) at out p = pushed out at ≡ p
 ReachedBy BadChoice at out p = Unit {0}
 ReachedBy NoChoice at out p = Unit {0}
 ReachedBy Stuck at out p = Unit {0}

@@ -39,7 +39,7 @@ ran e n at m = record { end = e; steps = n; used = at; machine = m }
 -- A row that does not go on, after n steps, with the next choice at `at`: which steps and choices count (rule 2.29). No step of a run is
 -- stuck, and none that goes on is asked of, so what stands there is never handed back.
 abbrev pub failedOf : Failure → ℕ → ℕ → ℕ → Machine → Ran
-failedOf (Fails why) next n at m = ran (Code.Fail why) (suc n) next m
+failedOf (Fails reason) next n at m = ran (Code.Fail reason) (suc n) next m
 failedOf BadChoice next n at m = ran Code.ChoiceNotAllowed n at m
 failedOf NoChoice next n at m = ran Code.NoChoiceLeft n at m
 failedOf Stuck next n at m = ran Code.OutOfSteps n at m

@@ -1,6 +1,5 @@
 // What the test programs share: cases on standard input, each after its length in bytes; the parts of the lines that they print; and
 // check numbers of words and of bytes.
-use evaluators::answers::Reason;
 use evaluators::answers::reason_number;
 use file::word::word_at;
 use machine::End;
@@ -101,24 +100,34 @@ pub fn print_verdict(v: Verdict) {
     }
 }
 
-// Prints a failure with its reason (rule 8.17). Whether it was written.
-fn print_failure(why: Reason) -> bool {
-    print_part(b"fail reason ", reason_number(why) as u64);
-    true
-}
-
-// Prints the name of an end (rule 8.4), a failure with its reason; the choice writer has one more, `full`. Whether it was written.
-pub fn print_end(e: End) -> bool {
+// Prints the name of an end (rule 8.4), a failure with its reason (rule 8.17); the choice writer has one more, `full`.
+pub fn print_end(e: End) {
     match e {
-        End::Done => io::write_all(1, b"done"),
-        End::AssertFalse => io::write_all(1, b"assert"),
-        End::AssumeFalse => io::write_all(1, b"assume"),
-        End::Fail(why) => print_failure(why),
-        End::WantOfCells => io::write_all(1, b"room"),
-        End::OutOfSteps => io::write_all(1, b"steps"),
-        End::ChoiceNotAllowed => io::write_all(1, b"badchoice"),
-        End::NoChoiceLeft => io::write_all(1, b"nochoice"),
-        End::ListFull => io::write_all(1, b"full"),
+        End::Done => {
+            io::write_all(1, b"done");
+        }
+        End::AssertFalse => {
+            io::write_all(1, b"assert");
+        }
+        End::AssumeFalse => {
+            io::write_all(1, b"assume");
+        }
+        End::Fail(reason) => print_part(b"fail reason ", reason_number(reason) as u64),
+        End::WantOfCells => {
+            io::write_all(1, b"room");
+        }
+        End::OutOfSteps => {
+            io::write_all(1, b"steps");
+        }
+        End::ChoiceNotAllowed => {
+            io::write_all(1, b"badchoice");
+        }
+        End::NoChoiceLeft => {
+            io::write_all(1, b"nochoice");
+        }
+        End::ListFull => {
+            io::write_all(1, b"full");
+        }
     }
 }
 

@@ -76,7 +76,7 @@ fn put_end(out: &mut [u8], at: usize, e: End) -> usize
         End::Done => put_word(out, at, b"done"),
         End::AssertFalse => put_word(out, at, b"assert"),
         End::AssumeFalse => put_word(out, at, b"assume"),
-        End::Fail(why) => put_part(out, at, b"fail reason ", reason_number(why) as u64),
+        End::Fail(reason) => put_part(out, at, b"fail reason ", reason_number(reason) as u64),
         End::WantOfCells => put_word(out, at, b"room"),
         End::OutOfSteps => put_word(out, at, b"steps"),
         End::ChoiceNotAllowed => put_word(out, at, b"badchoice"),
