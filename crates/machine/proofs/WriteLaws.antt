@@ -105,13 +105,13 @@ module _ (own : List ℕ) (m : Machine) (cells l : List ℕ) {room : ℕ} (fits 
           (if b then cellGets room start (sizeOf (placesOf own) (made start len reduced)) p x at else Not (Fails PastLength) at)
           ((if_then_else_ {A = Work Move} b (put (placesOf own) state (made start len reduced) p x) (fail pastLength)) (drop at l))
       go true = cell-works (made start len reduced) p x at
-      go false = works-fails PastLength refl
+      go false = works-fails _ refl
 
   pub target-works : (t : Target) (p x at : ℕ)
       → Works own m cells l (targetGets own room t p x at) (next (targetOut t (drop at l)) (storeIn false (placesOf own) state p x))
   unfolding targetOut
   target-works (To start len reduced) p x at = place-works start len reduced p x at
-  target-works Missing p x at = works-fails WithoutArray refl
+  target-works Missing p x at = works-fails _ refl
   target-works Unknown p x at = works-stuck refl
 
   -- t is what a pointer to place p points to
@@ -135,7 +135,7 @@ module _ (own : List ℕ) (m : Machine) (cells l : List ℕ) {room : ℕ} (fits 
           (drop at l))
       go true true = cell-works (made start len true) at-class x at
       go true false = works-goes refl
-      go false d = works-fails PastLength refl
+      go false d = works-fails _ refl
 
 -- ---- 34, or 40, as the functions give it: z is what one came to
 module _ (own l : List ℕ) (room : ℕ) where
@@ -175,7 +175,7 @@ module _ (own l : List ℕ) (room : ℕ) where
 
     pub reduced-missing : t ≡ Missing → Reduced (Not (Fails WithoutArray) at)
     unfolding targetOut
-    reduced-missing et = rw et (record { stores = λ m cells f. works-fails WithoutArray refl })
+    reduced-missing et = rw et (record { stores = λ m cells f. works-fails _ refl })
 
     pub reduced-unknown : t ≡ Unknown → Reduced (Not Stuck at)
     unfolding targetOut
