@@ -296,7 +296,7 @@ fn check_table(words: &[u32], reduced: bool) -> Result<(), Refusal> {
 /// Checks the table and the pair, and fills the lent words.
 pub fn reduce_table(words: &[u32], c1: u32, c2: u32, lent: &mut [u32]) -> Result<(), Refusal> {
     check_table(words, false)?;
-    if c1 as u64 + 1 >= c2 as u64 {
+    if c1 >= c2 {
         return refuse(13, 0);
     }
     if lent.len() != words.len() {

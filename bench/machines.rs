@@ -478,9 +478,9 @@ fn record_check(table: &Table, record: &Record) -> u32 {
 }
 
 fn refusal(reduced: bool, pair: Pair, lent: usize) -> Option<u32> {
-    if reduced && pair.c1 as u64 + 1 >= pair.c2 as u64 {
+    if reduced && pair.c1 >= pair.c2 {
         Some(13)
-    } else if lent != if reduced { 4112 } else { 4096 } {
+    } else if lent != if reduced { 4128 } else { 4096 } {
         Some(14)
     } else {
         None

@@ -13,7 +13,7 @@ use machines::{ARRAYS, Array, End, Machine, Node, Open, Pair, Pointer, Record, R
 const INPUT: usize = 22_029; // a byte more than the longest input that is not refused for its length
 const LIST: usize = 8_192;
 const PLAIN_CELLS: usize = 4_096;
-const REDUCED_CELLS: usize = 4_112;
+const REDUCED_CELLS: usize = 4_128;
 
 // The choice writer
 

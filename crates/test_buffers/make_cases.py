@@ -246,8 +246,8 @@ def writer():
     case(WRITER, "refused 14 line 0", 5248, 7, data=packed(flat(FULL)))
 
 
-REFUSED_PAIRS = (1, 2), (3, 3), (3, 1), (BIG, 1), (BIG, BIG), (BIG - 1, BIG), (0, 0), (0, 1)
-PAIRS = (0, 2), (1, 3), (0, BIG), (BIG - 2, BIG), (4, 11)
+REFUSED_PAIRS = (1, 1), (2, 1), (3, 3), (3, 1), (BIG, 1), (BIG, BIG), (BIG, BIG - 1), (0, 0), (1, 0)
+PAIRS = (0, 2), (1, 3), (0, BIG), (BIG - 2, BIG), (4, 11), (1, 2), (0, 1), (4, 5), (BIG - 1, BIG), (2**31 - 1, 2**31)
 
 
 def reduction():
@@ -265,7 +265,7 @@ def reduction():
         case(REDUCTION, "refused 13 line 0", 4 * len(T), 7, pair, packed(flat(T)))
     for size in 0, 63, 65, 60, 68, 128, 5248:
         case(REDUCTION, "refused 14 line 0", size, 7, data=packed(flat(T)))
-        case(REDUCTION, "refused 13 line 0", size, 7, (1, 2), packed(flat(T)))
+        case(REDUCTION, "refused 13 line 0", size, 7, (1, 1), packed(flat(T)))
     for size in 1, 4, 5248:
         case(REDUCTION, "refused 14 line 0", size, 7)
     for size in 0, 1312, 5247, 5249, 10496:

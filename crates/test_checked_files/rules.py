@@ -229,7 +229,7 @@ def check_table(words, reduced):
 
 
 def check_pair(c1, c2):
-    if not c1 + 1 < c2:
+    if not c1 < c2:
         return (13, 0)
     return None
 

@@ -10,7 +10,7 @@ import sys
 HERE = pathlib.Path(__file__).parent
 sys.path.insert(0, str(HERE.parent / "test_checked_files"))
 sys.path.insert(0, str(HERE.parent / "test_run_cases"))
-from make_cases import CELLS, MP, MU, P, PLAIN, REDUCED, SKIP, Machine, Table, U, constant, variable, write_choices  # noqa: E402
+from make_cases import BIG, CELLS, MP, MU, P, PLAIN, REDUCED, SKIP, T, Machine, Table, U, constant, variable, write_choices  # noqa: E402
 from rules import refusal_of_input, write  # noqa: E402
 
 ROOM = 8192
@@ -73,8 +73,8 @@ def cells_of_each():
     for declaration, length, plain, pair in (
         (P, 4096, "done row 2 steps 2", "done row 2 steps 2 choices 0"),
         (P, 4097, "room row 0 steps 1", "done row 2 steps 2 choices 0"),
-        (P, 4112, "room row 0 steps 1", "done row 2 steps 2 choices 0"),
-        (P, 4113, "room row 0 steps 1", "room row 0 steps 1 choices 0"),
+        (P, 4128, "room row 0 steps 1", "done row 2 steps 2 choices 0"),
+        (P, 4129, "room row 0 steps 1", "room row 0 steps 1 choices 0"),
         (MP, 4096, "done row 2 steps 2", "done row 2 steps 2 choices 0"),
         (MP, 4097, "room row 0 steps 1", "done row 2 steps 2 choices 0"),
     ):
@@ -96,6 +96,16 @@ def why_it_failed():
         yield struct.pack("<3I", 1, 3, 9) + write(lines), ["plain " + ended, "pair %s choices %d" % (ended, choices)]
 
 
+def neighbours():
+    """T with circuits next to each other, and with places that are no pair. Each of its five rounds takes five choices, and one more at a place that is not
+    tracked; two are taken on entering the loop."""
+    for c1, c2, tracked in (1, 2, 2), (0, 1, 2), (3, 4, 2), (4, 5, 1), (5, 6, 0), (BIG - 1, BIG, 0):
+        out = ["plain done row 5 steps 17", "pair done row 5 steps 17 choices %d" % (2 + 5 * 5 + 5 - tracked)]
+        yield struct.pack("<3I", c1, c2, 100) + write(T), out
+    for c1, c2 in (1, 1), (2, 1), (0, 0), (BIG, BIG):
+        yield struct.pack("<3I", c1, c2, 100) + write(T), ["refused 13 line 0"]
+
+
 def main():
     vectors = pathlib.Path(sys.argv[1])
     data = (vectors / "cases.bin").read_bytes()
@@ -114,7 +124,7 @@ def main():
     assert expected == "".join(line.split(" ", 2)[2].replace(" | ", "\n") + "\n" for line in lines)
 
     more = 0
-    for given, ended in [*full_lists(), *cells_of_each(), *why_it_failed()]:
+    for given, ended in [*full_lists(), *cells_of_each(), *why_it_failed(), *neighbours()]:
         out = pairrun(given)
         assert out == ended, (out, ended)
         data += struct.pack("<I", len(given)) + given

@@ -595,6 +595,7 @@ for what, old, new in (
     ("c2 - 1 has class 3", "2 if v < c2 else 3 if v == c2", "2 if v < c2 - 1 else 3 if v <= c2"),
     ("above c2 has class 3", "v == c2", "v >= c2"),
     ("c2 has class 4", "3 if v == c2", "3 if v < 0"),
+    ("neighbours have the classes 0 to 3", "3 if v == c2 else 4", "(3 if v == c2 else 4) - (c1 + 1 == c2)"),
 ):
     broken("3.2", what, (CLASS, CLASS.replace(old, new)), kinds=REDUCED_KINDS, stops=True)
 KIND = "            if k in (16, 38) and self.marked(a, UINT):\n"
@@ -953,6 +954,13 @@ broken(
     (SIZE, SIZE.replace("class_of(length, self.pair)", "class_of(length, self.pair) + 1")),
     kinds={41},
 )
+FILLED = "sum(k not in empty_classes(%s) for k in range(class_of(length, %s)))"
+broken(
+    "3.7",
+    "a reduced array has no cell for an empty class",
+    (SIZE, SIZE.replace("class_of(length, self.pair)", FILLED % ("self.pair", "self.pair"))),
+    kinds={41},
+)
 broken("3.7", "a reduced array has as many cells as its length", (SIZE, "        return length\n"), kinds={41})
 broken("3.7", "a reduced array always has four cells", (SIZE, SIZE.replace("class_of(length, self.pair)", "4")), kinds={41})
 MADE = "        state.arrays.append((first, length, reduced))\n"
@@ -1289,7 +1297,7 @@ broken(
 )
 broken(
     "2.22",
-    "the plain run has 4,112 cells",
+    "the plain run has 4,128 cells",
     ("Machine(Table(lines), [0] * CELLS[PLAIN])", "Machine(Table(lines), [0] * CELLS[REDUCED])"),
     file=PAIRS,
 )
@@ -1425,6 +1433,7 @@ broken(
 )
 FOLLOWING = "        following += class_of(length, pair) if reduced else length\n"
 broken("7.9", "a reduced array takes its length", (FOLLOWING, "        following += length\n"), **RECORD)
+broken("7.9", "an empty class takes no cell", (FOLLOWING, FOLLOWING.replace("class_of(length, pair)", FILLED % ("pair", "pair"))), **RECORD)
 broken(
     "7.9",
     "a plain array in a reduced record takes its class",
@@ -1436,7 +1445,8 @@ CELLS_LEFT = "    if following > cells:\n"
 broken("7.10", "arrays past the cells pass", (CELLS_LEFT, "    if False:\n"), **RECORD)
 broken("7.10", "arrays that fill the cells are refused", (CELLS_LEFT, CELLS_LEFT.replace(">", ">=")), **RECORD)
 broken("7.10", "arrays one past the cells pass", (CELLS_LEFT, CELLS_LEFT.replace("cells", "cells + 1")), **RECORD)
-broken("7.10", "both records have 4,112 cells", (CELLS_LEFT, CELLS_LEFT.replace("cells", "4112")), **RECORD)
+broken("7.10", "both records have 4,128 cells", (CELLS_LEFT, CELLS_LEFT.replace("cells", "4128")), **RECORD)
+broken("7.10", "a reduced record has 4,127 cells", (CELLS_LEFT, CELLS_LEFT.replace("cells", "min(cells, 4127)")), **RECORD)
 broken("7.10", "both records have 4,096 cells", (CELLS_LEFT, CELLS_LEFT.replace("cells", "4096")), **RECORD)
 OF_TYPE = "        if kind == BOOL and number > 1 or kind == POINTER and base > count:\n"
 broken("7.5", "a bool of 2 passes", (OF_TYPE, OF_TYPE.replace("number > 1", "number > 2")), **RECORD)
@@ -1473,31 +1483,24 @@ broken(
     (OF_TYPE, OF_TYPE.replace("kind == POINTER and base", "base is not None and base")),
     **RECORD,
 )
-HELD = "            if number > 4 or empty:\n"
+HELD = "            if number > 4 or number in empty_classes(pair):\n"
 broken("7.6", "a class of 5 passes", (HELD, HELD.replace("4", "5")), **RECORD)
 broken("7.6", "a class of 4 is refused", (HELD, HELD.replace("> 4", "> 3")), **RECORD)
 broken("7.6", "a class that holds no number passes", (HELD, "            if number > 4:\n"), **RECORD)
-EMPTY = "            empty = number == 0 and pair[0] == 0 or number == 4 and pair[1] == BIG\n"
-broken("7.6", "class 0 with c1 = 0 passes", (EMPTY, "            empty = number == 4 and pair[1] == BIG\n"), **RECORD)
-broken(
-    "7.6",
-    "class 4 with c2 = 4,294,967,295 passes",
-    (EMPTY, "            empty = number == 0 and pair[0] == 0\n"),
-    **RECORD,
-)
-broken("7.6", "class 0 with c1 = 1 is refused", (EMPTY, EMPTY.replace("pair[0] == 0", "pair[0] <= 1")), **RECORD)
-broken(
-    "7.6",
-    "class 4 with c2 = 4,294,967,294 is refused",
-    (EMPTY, EMPTY.replace("pair[1] == BIG", "pair[1] >= BIG - 1")),
-    **RECORD,
-)
-broken(
-    "7.6",
-    "class 2 with c2 = c1 + 2 is refused",
-    (EMPTY, EMPTY.replace("empty =", "empty = number == 2 and pair[0] + 2 == pair[1] or")),
-    **RECORD,
-)
+EMPTY = "((0, c1 == 0), (2, c1 + 1 == c2), (4, c2 == BIG))"
+for what, old, new in (
+    ("class 0 with c1 = 0 passes", "c1 == 0", "False"),
+    ("class 2 with c2 = c1 + 1 passes", "c1 + 1 == c2", "False"),
+    ("class 2 with c2 = c1 + 1 passes where c1 is 0", "c1 + 1 == c2", "0 < c1 == c2 - 1"),
+    ("class 4 with c2 = 4,294,967,295 passes", "c2 == BIG", "False"),
+    ("class 4 with c2 = 4,294,967,295 passes where class 2 is empty too", "c2 == BIG", "c1 + 1 < c2 == BIG"),
+    ("class 0 with c1 = 1 is refused", "c1 == 0", "c1 <= 1"),
+    ("class 2 with c2 = c1 + 2 is refused", "c1 + 1 == c2", "c1 + 2 >= c2"),
+    ("class 2 is always refused", "c1 + 1 == c2", "True"),
+    ("class 4 with c2 = 4,294,967,294 is refused", "c2 == BIG", "c2 >= BIG - 1"),
+    ("neighbours have no class 3", "(4, c2", "(3, c1 + 1 == c2), (4, c2"),
+):
+    broken("7.6", what, (EMPTY, EMPTY.replace(old, new)), **RECORD)
 broken(
     "7.6",
     "a marked uint of a plain record must be a class",
@@ -1533,25 +1536,21 @@ UNUSED = (
 broken("7.13", "slots past the open loops are tested", (FITS, UNUSED + FITS), **RECORD)
 UNUSED = "    if any(v for v in record[FIRST][count:] + record[LENGTH][count:] + record[SHAPE][count:]):\n        return None\n"
 broken("7.13", "slots past the arrays are tested", (FITS, UNUSED + FITS), **RECORD)
-PAIR_13 = "        if checked is None and machine == REDUCED and not pair[0] + 1 < pair[1]:\n"
+PAIR_13 = "        if checked is None and machine == REDUCED and not pair[0] < pair[1]:\n"
 broken("6.21", "the plain machine refuses a pair", (PAIR_13, PAIR_13.replace("machine == REDUCED and ", "")), stops=True)
-broken(
-    "3.1",
-    "c1 + 1 = c2 passes for a run",
-    (PAIR_13, PAIR_13.replace("not pair[0] + 1 < pair[1]", "not pair[0] < pair[1]")),
-    stops=True,
-)
-broken(
-    "3.1",
-    "c1 + 1 is taken modulo 2^32 for a run",
-    (PAIR_13, PAIR_13.replace("pair[0] + 1 <", "(pair[0] + 1) % 2**32 <")),
-    stops=True,
-)
-broken("3.1", "c1 + 2 = c2 is refused for a run", (PAIR_13, PAIR_13.replace("pair[0] + 1 <", "pair[0] + 2 <")))
+for what, test in (
+    ("c1 = c2 passes for a run", "not pair[0] <= pair[1]"),
+    ("c1 = c2 + 1 passes for a run", "not pair[0] < pair[1] and pair[0] != pair[1] + 1"),
+    ("a c1 above c2 passes for a run", "pair[0] == pair[1]"),
+    ("c1 + 1 = c2 is refused for a run", "not pair[0] + 1 < pair[1]"),
+    ("0, 1 is refused for a run", "not (pair[0] < pair[1] and pair != (0, 1))"),
+):
+    broken("3.1", what, (PAIR_13, PAIR_13.replace("not pair[0] < pair[1]", test)), stops=True)
 SIZE_14 = "        if checked is None and lent != CELLS[machine]:\n"
 broken("6.21", "more cells than stated pass", (SIZE_14, SIZE_14.replace("!=", "<")), stops=True)
 broken("6.21", "fewer cells than stated pass", (SIZE_14, SIZE_14.replace("!=", ">")), stops=True)
-broken("6.21", "the plain machine takes 4,112 cells too", (SIZE_14, SIZE_14.replace(":\n", " and lent != 4112:\n")), stops=True)
+broken("6.21", "the plain machine takes 4,128 cells too", (SIZE_14, SIZE_14.replace(":\n", " and lent != 4128:\n")), stops=True)
+broken("6.21", "the reduced machine takes 4,112 cells too", (SIZE_14, SIZE_14.replace(":\n", " and lent != 4112:\n")), stops=True)
 broken("6.21", "the reduced machine takes 4,096 cells too", (SIZE_14, SIZE_14.replace(":\n", " and lent != 4096:\n")), stops=True)
 broken("6.2", "14 comes before 13", (SIZE_14, SIZE_14.replace("checked is None", "(checked is None or checked[0] == 13)")))
 broken(
@@ -2239,14 +2238,16 @@ broken(
     file=RULES,
     refused={12},
 )
-GAP = "    if not c1 + 1 < c2:\n"
-broken("3.1", "c1 + 1 = c2 passes", (GAP, "    if not c1 < c2:\n"), file=RULES)
-broken("3.1", "c1 + 2 = c2 is refused", (GAP, "    if not c1 + 2 < c2:\n"), file=RULES)
-broken("3.1", "c1 + 1 is taken modulo 2^32", (GAP, "    if not (c1 + 1) % 2**32 < c2:\n"), file=RULES)
-broken("3.1", "c1 above c2 passes", (GAP, "    if abs(c2 - c1) < 2:\n"), file=RULES)
-broken("3.1", "13 is not tested", (GAP, "    if False:\n"), file=RULES)
-broken("3.1", "c1 = 0 is refused", (GAP, "    if c1 == 0 or not c1 + 1 < c2:\n"), file=RULES)
-broken("3.1", "the places are compared with a sign", (GAP, "    if not c1 + 1 < c2 or c2 >= 2**31 > c1:\n"), file=RULES)
+BELOW = "    if not c1 < c2:\n"
+broken("3.1", "c1 = c2 passes", (BELOW, "    if not c1 <= c2:\n"), file=RULES)
+broken("3.1", "c1 = c2 + 1 passes", (BELOW, "    if not c1 < c2 and c1 != c2 + 1:\n"), file=RULES)
+broken("3.1", "c1 + 1 = c2 is refused", (BELOW, "    if not c1 + 1 < c2:\n"), file=RULES)
+broken("3.1", "c1 + 1 = c2 is refused where c1 is 0", (BELOW, "    if not c1 < c2 or (c1, c2) == (0, 1):\n"), file=RULES)
+broken("3.1", "c1 + 1 = c2 is refused where c2 is the largest number", (BELOW, "    if not c1 < c2 or c1 + 1 == c2 == 2**32 - 1:\n"), file=RULES)
+broken("3.1", "c1 above c2 passes", (BELOW, "    if c1 == c2:\n"), file=RULES)
+broken("3.1", "13 is not tested", (BELOW, "    if False:\n"), file=RULES)
+broken("3.1", "c1 = 0 is refused", (BELOW, "    if c1 == 0 or not c1 < c2:\n"), file=RULES)
+broken("3.1", "the places are compared with a sign", (BELOW, "    if not c1 < c2 or c2 >= 2**31 > c1:\n"), file=RULES)
 
 # Lent buffers: the reader
 

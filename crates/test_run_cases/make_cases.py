@@ -20,7 +20,7 @@ import struct
 HERE = pathlib.Path(__file__).parent
 BIG = 2**32 - 1
 PLAIN, REDUCED = 0, 1
-CELLS = {PLAIN: 4096, REDUCED: 4112}
+CELLS = {PLAIN: 4096, REDUCED: 4128}
 BOOL, UINT, POINTER = 1, 2, 3
 SUM, DIFFERENCE, NO_ARRAY, PAST, COUNTER = range(1, 6)  # the reasons of a failure
 ROW, OPEN, LOOP_ROW, START, END, NUMBER, BASE, COUNT, FIRST, LENGTH, SHAPE, CELL = range(12)
@@ -62,6 +62,12 @@ class Table:
 def class_of(v, pair):
     c1, c2 = pair
     return 0 if v < c1 else 1 if v == c1 else 2 if v < c2 else 3 if v == c2 else 4
+
+
+def empty_classes(pair):
+    """The classes up to 4 that no number has."""
+    c1, c2 = pair
+    return [k for k, empty in ((0, c1 == 0), (2, c1 + 1 == c2), (4, c2 == BIG)) if empty]
 
 
 # Runs
@@ -299,8 +305,7 @@ def state_of(table, record, pair, cells):
         if kind == BOOL and number > 1 or kind == POINTER and base > count:
             return None
         if pair is not None and table.marked(v, UINT):
-            empty = number == 0 and pair[0] == 0 or number == 4 and pair[1] == BIG
-            if number > 4 or empty:
+            if number > 4 or number in empty_classes(pair):
                 return None
         variables.append((base, number) if kind == POINTER else number == 1 if kind == BOOL else number)
     return State(row, loops, variables, arrays)
@@ -323,18 +328,25 @@ def record_check(table, state):
     return check_number(words)
 
 
+def holds_empty(run, state):
+    """Whether a marked uint of a reduced state holds a class that no number has."""
+    held = [v for i, v in enumerate(state.variables) if run.holds_classes and run.table.marked(i, UINT)]
+    return any(k in empty_classes(run.pair) for k in held)
+
+
 # Cases
 
 CASES = []  # bytes, lines
 
 
-def lines_of(machine, table, pair, lent, choices, runs, refusal):
-    """What is printed of each run; the refusal of a table is given."""
+def lines_of(machine, table, pair, lent, choices, runs, refusal, reached=None):
+    """What is printed of each run; the refusal of a table is given. The last states are put into a list, if one is given."""
+    reached = [] if reached is None else reached
     cells = [7] * lent
     state, out = None, []
     for k, (limit, edits) in enumerate(runs):
         checked = refusal
-        if checked is None and machine == REDUCED and not pair[0] + 1 < pair[1]:
+        if checked is None and machine == REDUCED and not pair[0] < pair[1]:
             checked = (13, 0)
         if checked is None and lent != CELLS[machine]:
             checked = (14, 0)
@@ -358,6 +370,7 @@ def lines_of(machine, table, pair, lent, choices, runs, refusal):
             line = "refused %d line %d" % checked
         else:
             end, steps, state = run.run(start, limit)
+            reached.append((run, state))
             choices = choices[run.used :]
             line = "%s row %d steps %d choices %d record %d" % (end, state.row, steps, run.used, record_check(table, state))
         out.append("%s cells %d" % (line, check_number(cells)))
@@ -373,7 +386,9 @@ def case(machine, lines, runs, pair=(1, 3), choices=(), lent=None, refusal=None,
     data = [machine, *pair, lent, len(words), len(choices), 1, *words, *choices]
     for limit, edits in runs:
         data += [limit, len(edits), *(w for edit in edits for w in edit)]
-    out = lines_of(machine, table, pair, lent, list(choices), runs, refusal)
+    reached = []
+    out = lines_of(machine, table, pair, lent, list(choices), runs, refusal, reached)
+    assert not any(holds_empty(run, state) for run, state in reached)
     if expect is not None:
         assert out[-1].startswith(expect + " "), (out, expect)
     CASES.append((struct.pack("<%dI" % len(data), *data), out))
@@ -445,10 +460,16 @@ def document():
         run(T, 0, expect="steps row 0 steps 0 choices 0")
         run([], 0, expect="done row 0 steps 0 choices 0")
         run([], 0, (5, []), expect="done row 0 steps 0 choices 0")
-    reduced(T, 100, pair=(1, 2), expect="refused 13 line 0")
+    reduced(T, 100, pair=(1, 1), expect="refused 13 line 0")
+    reduced(T, 100, pair=(1, 2), choices=written(T, (1, 2), 100), expect="done row 5 steps 17 choices 30")
     reduced(T, 100, pair=(0, 2), choices=written(T, (0, 2), 100), expect="done row 5 steps 17")
     # the second array begins after the cells that the first takes
-    for pair, sizes in ((1, 3), {0: 0, 1: 1, 2: 2, 3: 3, 5: 4}), ((0, 2), {0: 1, 1: 2}):
+    for pair, sizes in (
+        ((1, 3), {0: 0, 1: 1, 2: 2, 3: 3, 5: 4}),
+        ((0, 2), {0: 1, 1: 2}),
+        ((0, 1), {0: 1, 1: 3, 2: 4, 3: 4}),
+        ((1, 2), {0: 0, 1: 1, 2: 3, 3: 4}),
+    ):
         for length, size in sizes.items():
             lines = [MP, constant(length), (37, 0, 0, 0), (37, 0, 0, 0)]
             assert class_of(length, pair) == size
@@ -475,13 +496,24 @@ def wants_of_cells():
 
     for lengths in (4096,), (4097,), (BIG,), (4096, 0, 1), (4000, 96), (4000, 97), (1, BIG), (0,) * 17, (1,) * 17, (256,) * 17:
         plain(arrays(P, *lengths), 100, 100)
-    for lengths in (4112,), (4113,), (4112, 0), (4112, 1), (BIG,), (4096, 16, 0), (257,) * 17:
+    for lengths in (4097,), (4128,), (4129,), (4128, 0), (4128, 1), (BIG,), (4096, 32, 0), (258,) * 17:
         reduced(arrays(P, *lengths), 100, 100)
     for lengths in (BIG,) * 16, (BIG,) * 17, (0,) * 17, (3, 2, 1, 4, 0):
         reduced(arrays(MP, *lengths), 100)
-        reduced(arrays(MP, *lengths), 100, pair=(0, 2))
-    for plain_length, length in (4108, 4), (4109, 4), (4110, 2), (4111, 2), (4111, 1), (4112, 0), (4112, 1):
+        for pair in (0, 2), (0, 1), (1, 2):
+            reduced(arrays(MP, *lengths), 100, pair=pair)
+    for plain_length, length in (4124, 4), (4125, 4), (4126, 2), (4127, 2), (4127, 1), (4128, 0), (4128, 1):
         reduced([P, MP, constant(plain_length), constant(length), (37, 0, 0, 0), (37, 1, 1, 0)], 100)
+    for plain_length, length in (4124, 2), (4125, 2), (4125, 1), (4126, 1), (4127, 0), (4128, 0):
+        reduced([P, MP, constant(plain_length), constant(length), (37, 0, 0, 0), (37, 1, 1, 0)], 100, pair=(0, 1))
+    # the most that a run can need whose plain run has room, one plain array and 15 reduced ones of two cells more than their length; and a cell more
+    for length in 1, 2:
+        for plain_length in 4096 - 15 * length, 4097 - 15 * length:
+            ended = "done row 16 steps 16" if plain_length + 15 * length == 4096 else "room row 15 steps 16"
+            lines = [P, MP, constant(plain_length), constant(length), (37, 0, 0, 0)] + [(37, 1, 1, 0)] * 15
+            plain(lines, 100, expect=ended)
+            reduced(lines, 100, pair=(0, 1), expect="done row 16 steps 16 choices 0")
+            reduced(lines[:4] + lines[5:] + [lines[4]], 100, pair=(0, 1), expect="done row 16 steps 16 choices 0")
     # a new array's cells are zeroed, those that the edit left
     lines = [P, constant(3), (37, 0, 0, 0), (37, 0, 0, 0)]
     edits = [(CELL, 0, 5), (CELL, 3, 6), (CELL, 5, 8), (CELL, 6, 9), (CELL, 4095, 4)]
@@ -491,7 +523,7 @@ def wants_of_cells():
     # one that doesn't fit leaves the cells
     plain([P, constant(3), constant(4094), (37, 0, 0, 0), (37, 0, 1, 0)], 1, (1, edits), 1)
     plain([P, constant(3), constant(0), (37, 0, 0, 0)] + [(37, 0, 1, 0)] * 15 + [(37, 0, 0, 0)], 16, (1, edits), 1)
-    reduced([P, constant(3), constant(4110), (37, 0, 0, 0), (37, 0, 1, 0)], 1, (1, edits), 1)
+    reduced([P, constant(3), constant(4126), (37, 0, 0, 0), (37, 0, 1, 0)], 1, (1, edits), 1)
     # the pointer is at place 0 then, wherever it was
     for declaration in P, MP:
         both([declaration, constant(4), variable(0), (20, 1, 0, 0), (33, 0, 2, 0), (37, 0, 0, 0)], 100)
@@ -518,7 +550,7 @@ def loops():
     ends = [constant(n) for n in (0, 1, 2, 5, BIG - 1, BIG)]
     for declaration in U, MU:
         for start, end in (0, 0), (0, 2), (1, 0), (2, 2), (5, 4), (4, 5), (5, 5), (0, 5), (3, 2):
-            for pair in (1, 3), (0, 2), (0, BIG), (BIG - 2, BIG):
+            for pair in (1, 3), (0, 2), (0, BIG), (BIG - 2, BIG), (0, 1), (1, 2), (BIG - 1, BIG):
                 lines = [declaration, *ends, *loop(0, start, end, SKIP), SKIP]
                 reduced(lines, 40, 40, pair=pair, choices=written(lines, pair, 80))
             plain(lines, 40, 40)
@@ -602,7 +634,7 @@ def dropped_writes():
 
 def choices_taken():
     """Choices outside the class, and lists that end, at each place."""
-    for lines, pair in (T, (1, 3)), (T, (0, 2)), (T, (0, 4)), (T, (2, 9)):
+    for lines, pair in (T, (1, 3)), (T, (0, 2)), (T, (0, 4)), (T, (2, 9)), (T, (1, 2)), (T, (0, 1)), (T, (4, 5)):
         choices = written(lines, pair, 100)
         for k in range(len(choices)):
             reduced(lines, 100, pair=pair, choices=choices[:k])
@@ -612,7 +644,7 @@ def choices_taken():
     # the choices of 42 take the place of start and end, in the class or not
     lines = [MU, U, constant(6), constant(9), constant(2), variable(0), *loop(0, 0, 1, (33, 1, 3, 0)), SKIP]
     for choices in [6, 9], [9, 6], [9, 9, 9, 10, 4], [4, BIG, 7, 5, 8, 4], [BIG, BIG, 4, 4], [3, 9], [2, 9], [6, 3], [6, 2], [4, 5, 5, 6, 3]:
-        for pair in (1, 3), (0, 5), (8, BIG), (6, 9):
+        for pair in (1, 3), (0, 5), (8, BIG), (6, 9), (5, 6), (8, 9):
             reduced(lines, 4, 100, pair=pair, choices=choices)
     # a write's choice past the length fails, and counts
     lines = [MP, constant(5), constant(9), variable(0), (20, 2, 1, 0), (20, 2, 0, 0), (37, 0, 0, 0), (34, 3, 0, 0)]
@@ -621,7 +653,7 @@ def choices_taken():
         reduced(lines[:-1] + [(34, 4, 0, 0)], 100, choices=choices)
     # a fail after a choice counts it; a marked uint that no loop uses holds the class of 0
     lines = [MU, U, variable(0), constant(1), (21, 0, 1, 0), (33, 1, 2, 0)]
-    for pair in (0, 2), (1, 3), (5, 7):
+    for pair in (0, 2), (1, 3), (5, 7), (0, 1), (3, 4):
         for choices in [], [0], [1], [3], [4, 4], [5]:
             reduced(lines, 100, 100, pair=pair, choices=choices)
     # start + 1 fails before any choice
@@ -816,17 +848,17 @@ def record_edits():
     yield from ([(FIRST, 0, v)] for v in (1, 3, BIG))
     yield from ([(FIRST, 1, v)] for v in (0, 2, 4, BIG))
     yield from ([(LENGTH, 0, v)] for v in (2, 4, BIG))
-    yield from ([(LENGTH, 0, v), (FIRST, 1, v)] for v in (0, 2, 4, 4091, 4092, 4093, 4107, 4108, 4109, 4112, 4113, BIG))
+    yield from ([(LENGTH, 0, v), (FIRST, 1, v)] for v in (0, 2, 4, 4091, 4092, 4093, 4123, 4124, 4125, 4128, 4129, BIG))
     yield from ([(LENGTH, 1, v)] for v in (0, 1, 5, 4093, 4094, BIG))
-    yield from ([(LENGTH, 1, v), (SHAPE, 1, 0)] for v in (4093, 4094, 4109, 4110, BIG))
+    yield from ([(LENGTH, 1, v), (SHAPE, 1, 0)] for v in (4093, 4094, 4125, 4126, BIG))
     yield from ([(SHAPE, i, v)] for i in (0, 1) for v in (0, 1, 2, 255))
     yield from ([(LENGTH, 0, v), (SHAPE, 0, 1)] for v in (2, 4, 5, BIG))
     yield from ([(LENGTH, 0, v), (SHAPE, 0, 1), (FIRST, 1, n)] for v, n in ((2, 2), (0, 0), (9, 4), (BIG, 4), (9, 9)))
     yield sequence((0, 2**31, 0), (2**31, 2**31, 0), (0, 4, 0))
     yield sequence((0, BIG, 0), (BIG, 1, 0), (0, 4, 0))
     yield from (sequence(*[(min(i, k), int(i < k), 0) for i in range(16)]) for k in (0, 1, 16))
-    yield sequence(*[(257 * i, 257, 0) for i in range(16)])
-    yield sequence(*[(257 * i, 257 + i // 15, 0) for i in range(16)])
+    yield sequence(*[(258 * i, 258, 0) for i in range(16)])
+    yield sequence(*[(258 * i, 258 + i // 15, 0) for i in range(16)])
     yield sequence(*[(256 * i, 256, 0) for i in range(16)])
     yield sequence(*[(256 * i, 256 + i // 15, 0) for i in range(16)])
     yield sequence(*[(4 * i, BIG, 1) for i in range(16)])
@@ -846,12 +878,33 @@ def records():
     # a refusal leaves the numbers in the cells
     for edits in [(ROW, 0, 12)], [(COUNT, 0, 17)], [(START, 0, BIG)]:
         plain(KEPT, 4, (3, edits + [(CELL, 0, 12), (CELL, 4095, 14)]), 2)
-        reduced(KEPT, 4, (3, edits + [(CELL, 0, 12), (CELL, 4111, 14)]), 2, choices=choices)
-    # classes that hold no number
-    for pair in (0, 2), (0, BIG), (1, BIG), (0, BIG - 1), (1, BIG - 1), (BIG - 2, BIG):
+        reduced(KEPT, 4, (3, edits + [(CELL, 0, 12), (CELL, 4127, 14)]), 2, choices=choices)
+    # the classes that hold no number, of each pair; the plain machine holds numbers
+    for pair, empty in (
+        ((1, 3), ()),
+        ((1, BIG - 1), ()),
+        ((0, 2), (0,)),
+        ((0, BIG - 1), (0,)),
+        ((1, 2), (2,)),
+        ((BIG - 2, BIG - 1), (2,)),
+        ((1, BIG), (4,)),
+        ((BIG - 2, BIG), (4,)),
+        ((0, 1), (0, 2)),
+        ((0, BIG), (0, 4)),
+        ((BIG - 1, BIG), (2, 4)),
+    ):
         choices = written(KEPT, pair, 1000)
         for held in range(6):
-            reduced(KEPT, 4, (100, [(NUMBER, 3, held)]), pair=pair, choices=choices)
+            edits = [(NUMBER, 3, held)]
+            out = reduced(KEPT, 4, (100, edits), pair=pair, choices=choices)
+            assert out[-1].startswith("refused 15 line 0 ") == (held == 5 or held in empty)
+            plain(KEPT, 4, (100, edits), pair=pair, expect="done row 11 steps 29 choices 0")
+    # a reduced array takes its cells, those of empty classes too, before the one after it
+    for pair, length, size in ((0, 1), 0, 1), ((0, 1), 1, 3), ((0, 1), 2, 4), ((1, 2), 1, 1), ((1, 2), 2, 3), ((1, 2), 3, 4):
+        lines = [MP, constant(length), (37, 0, 0, 0), (37, 0, 0, 0), SKIP]
+        for first in range(6):
+            out = reduced(lines, 2, (1, [(FIRST, 1, first)]), pair=pair)
+            assert out[-1].startswith("refused 15 line 0 ") == (first != size)
     # what a run ended with is continued: the row is done again, with the choices that are left
     lines = [MU, B, variable(0), constant(2), (22, 0, 1, 0), (35, 2, 0, 0)]
     for choices in [0, 0], [2, 0], [2, 1, 0], [2, 2, 2]:
@@ -863,7 +916,7 @@ def refusals():
     row = (ROW, 0, 99)
     for machine, lines in (PLAIN, T), (REDUCED, Table(T).reduced().lines):
         size = CELLS[machine]
-        for lent in 0, 1, size - 1, size + 1, CELLS[1 - machine], 4200:
+        for lent in 0, 1, size - 1, size + 1, CELLS[1 - machine], 4112, 4200:
             case(machine, lines, [10, (10, [row])], lent=lent, expect="refused 14 line 0")
         case(machine, lines, [0, (10, [row]), 10], choices=written(T, (1, 3), 10))
         spoiled = [w for line in lines for w in line]
@@ -889,12 +942,12 @@ def refusals():
     case(REDUCED, [MU, constant(1), (38, 0, 0, 0), CLOSE], [10], refusal=(12, 2))
     case(REDUCED, [U, constant(1), (42, 0, 0, 0), CLOSE], [10], refusal=(12, 2))
     # the pair is for the reduced machine alone, and comes before the size
-    for pair in (1, 2), (2, 2), (3, 1), (BIG, 0), (BIG, BIG), (BIG - 1, BIG), (BIG, 1):
+    for pair in (0, 0), (1, 1), (2, 1), (2, 2), (3, 1), (BIG, 0), (BIG, BIG), (BIG, BIG - 1), (BIG, 1):
         plain(T, 100, pair=pair)
         reduced(T, 100, (100, [row]), pair=pair, expect="refused 13 line 0")
-        reduced(T, 100, (100, [row]), pair=pair, lent=4111, expect="refused 13 line 0")
-    for pair in (0, 2), (BIG - 2, BIG), (0, BIG):
-        reduced(T, 100, pair=pair, choices=written(T, pair, 100))
+        reduced(T, 100, (100, [row]), pair=pair, lent=4127, expect="refused 13 line 0")
+    for pair in (0, 2), (BIG - 2, BIG), (0, BIG), (0, 1), (1, 2), (4, 5), (BIG - 1, BIG):
+        reduced(T, 100, pair=pair, choices=written(T, pair, 100), expect="done row 5 steps 17")
 
 
 # A line of each kind that passes after these declarations, and these nodes in a node or row
@@ -1084,13 +1137,13 @@ def worth(pick, lines, limit):
     return machine.run(machine.fresh(), limit)[1] > 12 or pick.random() < 0.1
 
 
-def shuffled(tables):
+def shuffled(tables, seed, pairs):
     """Plain runs whole and in parts; reduced runs under the true choices, damaged ones and too few. How many plain runs had which end."""
-    pick = random.Random(1)
+    pick = random.Random(seed)
     tally = {}
     while sum(tally.values()) < tables:
         lines = Shuffled(pick).lines
-        pair = pick.choice([(1, 3), (0, 2), (2, 5), (1, 6), (0, BIG)])
+        pair = pick.choice(pairs)
         limit = pick.choice([20, 60, 200])
         choices = written(lines, pair, limit)
         if len(choices) > 800 or not worth(pick, lines, limit):
@@ -1134,10 +1187,11 @@ def main():
     refusals()
     refused_lines()
     refused_twice()
-    tally = shuffled(150)
+    tally = shuffled(150, 1, [(1, 3), (0, 2), (2, 5), (1, 6), (0, BIG)])
+    neighbours = shuffled(60, 2, [(0, 1), (1, 2), (2, 3), (4, 5)])
     (HERE / "stdin").write_bytes(b"".join(struct.pack("<I", len(data)) + data for data, _ in CASES))
     (HERE / "stdout").write_text("".join(line + "\n" for _, out in CASES for line in out))
-    print(len(CASES), "cases,", sum(len(out) for _, out in CASES), "runs; ends of the pseudo-random tables:", tally)
+    print(len(CASES), "cases,", sum(len(out) for _, out in CASES), "runs; ends of the pseudo-random tables:", tally, neighbours)
 
 
 if __name__ == "__main__":

@@ -11,7 +11,7 @@ use Rattle.model.specs.State.{State}
 use Rattle.model.specs.Step.{finished, run}
 use Rattle.model.specs.Step.End.{done}
 use Rattle.model.specs.Step.Report.{ended}
-use Rattle.model.proofs.ClassLaws.{one-cell-more}
+use Rattle.model.proofs.ClassLaws.{cell-for-each-place}
 use Rattle.model.proofs.PairLaws.{pair-accepted, pair-class, pair-tracked, pair-held}
 use Rattle.model.proofs.EvalLaws.{eval-is}
 use Rattle.model.proofs.ReduceLaws.{length-reduce, reduce-kind, reduce-a, reduce-b, reduce-c}
@@ -40,7 +40,7 @@ demand2 = record {
   classes = pair-class;
   tracks = pair-tracked;
   holds = pair-held;
-  sizes = one-cell-more;
+  sizes = cell-for-each-place;
   nodes = eval-is;
   runs = run-by-rule;
   fits = fits-can;

@@ -4,5 +4,6 @@ pub mod StepLaws
 pub mod Demand1Proof
 pub mod Demand2Proof
 pub mod ReasonsProof
+pub mod NeighboursProof
 pub mod Demand3Proof
 pub mod ExampleProof

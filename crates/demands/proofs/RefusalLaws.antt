@@ -7,7 +7,7 @@ use native.Mathlib.Omega.{arith}
 use mathlib.Core.Bool.{Bool, true, false}
 use mathlib.Core.List.{List, [], _∷_, _++_, map}
 use lib.ListN.{length}
-use lib.Dec.{eqb}
+use lib.Dec.{ltb, eqb}
 use borrow.Author.Tests.{lt-ltb}
 use Rattle.lists.specs.If.{if_then_else_}
 use Rattle.lists.specs.First.{first}
@@ -109,6 +109,9 @@ record-checked m ps t s n = go (recordFits m ps t s)
     go true = tt
     go false = inl (refl, omega arith)
 
--- ---- the check of a pair is that a number stands between
-pub pair-passes : (c1 c2 : ℕ) → c1 + 1 < c2 → placesCheck (pair c1 c2) ≡ Passes
-pair-passes c1 c2 h = rw (pair-accepted c1 c2 ∙ lt-ltb (c1 + 1) c2 h)
+-- ---- the check of a pair is that the first place is below the second
+pub pair-checked : (c1 c2 : ℕ) → placesCheck (pair c1 c2) ≡ (if ltb c1 c2 then Passes else Refused 13 0)
+pair-checked c1 c2 = rw (pair-accepted c1 c2)
+
+pub pair-passes : (c1 c2 : ℕ) → c1 < c2 → placesCheck (pair c1 c2) ≡ Passes
+pair-passes c1 c2 h = pair-checked c1 c2 ∙ rw (lt-ltb c1 c2 h)

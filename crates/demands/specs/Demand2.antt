@@ -9,7 +9,7 @@ use mathlib.Core.List.{List}
 use lib.ListN.{length}
 use Rattle.file.specs.Statements.{WrittenReadsBack, ReadIsWrittenAgain}
 use Rattle.table.specs.Promises.{ReductionPasses}
-use Rattle.model.specs.Class.{OneCellMore}
+use Rattle.model.specs.Class.{CellForEachPlace}
 use Rattle.model.specs.Pair.{PairAccepted, PairClasses, PairTracked, PairHeld}
 use Rattle.model.specs.Table.{Table, lineAt, marked}
 use Rattle.model.specs.State.{State}
@@ -48,7 +48,7 @@ pub record Demand2 : Type 0 where
   pub classes : PairClasses
   pub tracks : PairTracked
   pub holds : PairHeld
-  pub sizes : OneCellMore
+  pub sizes : CellForEachPlace
   -- nodes, rows, ends and counts (section 2)
   pub nodes : EvalByRule
   pub runs : (ps : List ℕ) (t : Table) (n : ℕ) (s : State) (choices : List ℕ) → RunByRule ps t n s choices

@@ -8,7 +8,7 @@
 -- means for the two lines of `pair_run` stands in the specs of `pair`. (rules 10.5 to 10.9.) An end by failure has its reason in it, so "the same
 -- way" is the same end and reason; that it is so stands in Reasons. Proved in proofs/Demand3Proof.
 use mathlib.Core.Path.{_≡_}
-use Prim.Native.Nat.{ℕ, _+_, _<_}
+use Prim.Native.Nat.{ℕ, _<_}
 use mathlib.Core.List.{List}
 use Rattle.table.specs.declared.Verdict.the-variants.{Passes}
 use Rattle.table.specs.Checks.{tableCheck}
@@ -19,6 +19,6 @@ use Rattle.pair.specs.Promises.{LinesMatch}
 use Rattle.demands.specs.Reasons.{MatchingReasons}
 
 pub record Demand3 : Type 0 where
-  pub wholeRuns : (c1 c2 : ℕ) → c1 + 1 < c2 → (P : List ℕ) → tableCheck plain P ≡ Passes → WholeRuns (pair c1 c2) P
+  pub wholeRuns : (c1 c2 : ℕ) → c1 < c2 → (P : List ℕ) → tableCheck plain P ≡ Passes → WholeRuns (pair c1 c2) P
   pub twoLines : LinesMatch
   pub reasons : MatchingReasons

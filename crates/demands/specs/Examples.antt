@@ -74,6 +74,7 @@ results =
     ∷ takes 1 3 5
     ∷ takes 0 2 0
     ∷ takes 0 2 1
+    ∷ says (placesCheck (pair 1 1))
     ∷ says (placesCheck (pair 1 2))
     ∷ says (placesCheck (pair 0 2))
     ∷ []
@@ -102,8 +103,9 @@ expected =
     ∷ cells 4
     ∷ cells 1
     ∷ cells 2
-    -- the pair 1, 2 gets 13; the pair 0, 2 passes
+    -- the pair 1, 1 gets 13; the pairs 1, 2 and 0, 2 pass
     ∷ says (Refused 13 0)
+    ∷ says Passes
     ∷ says Passes
     ∷ []
 

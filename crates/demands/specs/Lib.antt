@@ -4,5 +4,6 @@ pub mod Refusals
 pub mod Demand1
 pub mod Demand2
 pub mod Reasons
+pub mod Neighbours
 pub mod Demand3
 pub mod Examples

@@ -1,7 +1,7 @@
 -- Why a row failed (rules 2.36 to 2.38), said of the public definitions: the reasons have the numbers 1 to 5, matching ends have equal reasons,
 -- and the counter's is the closing row's own. Proved in proofs/ReasonsProof.
 use mathlib.Core.Path.{_≡_}
-use Prim.Native.Nat.{ℕ, _+_, _<_, _≤_}
+use Prim.Native.Nat.{ℕ, _<_, _≤_}
 use mathlib.Core.Bool.{false}
 use mathlib.Core.List.{List, [], _∷_, map}
 use lib.ListN.{length}
@@ -46,7 +46,7 @@ pub record SameReason (ps P : List ℕ) (limit : ℕ) (cells reducedCells : List
 -- for any table that passes, any accepted pair, and cells of the stated sizes (rule 10.6)
 abbrev pub MatchingReasons : Type 0
 MatchingReasons =
-    (c1 c2 : ℕ) → c1 + 1 < c2 → (P : List ℕ) → tableCheck plain P ≡ Passes → (limit : ℕ) (cells reducedCells : List ℕ)
+    (c1 c2 : ℕ) → c1 < c2 → (P : List ℕ) → tableCheck plain P ≡ Passes → (limit : ℕ) (cells reducedCells : List ℕ)
     → length cells ≡ cellCount plain → length reducedCells ≡ cellCount reduced → (why : Reason) → SameReason (pair c1 c2) P limit cells reducedCells why
 
 -- the reasons, by their numbers from 1 on

@@ -52,7 +52,7 @@ impl Machine {
 
     pub const PLAIN_CELLS: usize = 4096;
 
-    pub const REDUCED_CELLS: usize = 4112;
+    pub const REDUCED_CELLS: usize = 4128;
 }
 
 // What a step changes: nothing but the row; variable a gets a number and a base; cell i gets a number; pointer a gets a new array (its first

@@ -6,8 +6,7 @@ use native.Mathlib.Nat.{not-suc-le-zero}
 use native.Mathlib.Omega.{arith}
 use mathlib.Core.Bool.{Bool, true, false, true≢false, false≢true}
 use mathlib.Core.List.{List, [], _∷_, _++_, append-nil}
-use lib.ListN.{getD}
-use lib.Dec.{lit≤}
+use lib.ListN.{length, getD}
 use Rattle.lists.specs.If.{if_then_else_}
 use Rattle.lists.proofs.TabLaws.{at-tab, length-tab}
 use Rattle.model.specs.Class.{acceptedPlaces, class, tracked}
@@ -24,7 +23,7 @@ use Rattle.model.specs.Reduce.{reduce}
 use Rattle.model.specs.Agree.{Agree, arrayAt}
 use Rattle.model.specs.Accepted.{Accepted, CanHave, HasType, Holds}
 use Rattle.model.specs.Demand3.{Demand3Holds, Ends, FullAfter, Matched, Numbers, choiceList, choicesUsed, plainRun, reducedRun, wantsCells}
-use Rattle.model.proofs.ClassLaws.{one-cell-more}
+use Rattle.model.proofs.ClassLaws.{cell-for-each-place, places-few, places-rise}
 use Rattle.model.proofs.Match.{All}
 use Rattle.model.proofs.Safe.{leaves-plain}
 use Rattle.model.proofs.KindsIn.{table-plain}
@@ -107,9 +106,9 @@ pub keeps-tracked : (b c : Bool) → c ≡ true → (if b then c else true) ≡ 
 keeps-tracked true c e = e
 keeps-tracked false c e = refl
 
--- a reduced array takes at most a cell more, and there are so many cells more
-abbrev pub oneMore : ℕ → Extra
-oneMore n = record { perArray = 1; inAll = n }
+-- a reduced array takes at most one cell more for each place, and there are as many more for each array
+abbrev pub forEachPlace : List ℕ → Extra
+forEachPlace ps = record { perArray = length ps; inAll = length ps * mostArrays }
 
 -- the run of a reduction
 pub reduced-run : (ps P : List ℕ) (limit : ℕ) (cs : List ℕ)
@@ -129,11 +128,11 @@ module _ (ps : List ℕ) (h : acceptedPlaces ps ≡ true) (P : List ℕ) (A : Ac
     R = plain-related (tableOf P) A C
 
     abbrev S : State → State → Type 0
-    S = LinkedNow ps (oneMore mostArrays) R
+    S = LinkedNow ps (forEachPlace ps) R
 
     -- the choice list hands the second run what it takes
-    handed : (limit : ℕ) → HandedRun plain F (oneMore mostArrays) S (plainRun P) second limit [] (choiceList ps P limit)
-    handed limit = fresh-runs ps (oneMore mostArrays) R (lit≤ tt) (one-cell-more ps h) limit [] tt
+    handed : (limit : ℕ) → HandedRun plain F (forEachPlace ps) S (plainRun P) second limit [] (choiceList ps P limit)
+    handed limit = fresh-runs ps (forEachPlace ps) R (omega (arith, places-few ps h)) (cell-for-each-place ps (places-rise ps h)) limit [] tt
 
     -- the two runs, where the plain one does not end for want of cells
     pub record PlainAlike (limit : ℕ) (list : List ℕ) : Type 0 where
@@ -148,7 +147,7 @@ module _ (ps : List ℕ) (h : acceptedPlaces ps ≡ true) (P : List ℕ) (A : Ac
     pub plain-alike : (limit : ℕ) → wantsCells (plainRun P limit) ≡ false → PlainAlike limit (choiceList ps P limit)
     plain-alike limit w = subst (PlainAlike limit) (handed limit .written (λ l. omega arith) refl) (go (handed limit .alike))
       where
-        go : {l : List ℕ} → AlikeRuns (oneMore mostArrays) S (plainRun P) second limit l → PlainAlike limit l
+        go : {l : List ℕ} → AlikeRuns (forEachPlace ps) S (plainRun P) second limit l → PlainAlike limit l
         go (end-alike e n p r cs L f g) = record {
           end = e;
           steps = n;
@@ -173,7 +172,7 @@ module _ (ps : List ℕ) (h : acceptedPlaces ps ≡ true) (P : List ℕ) (A : Ac
 
   from-alike : (limit : ℕ) (l : List ℕ) → PlainAlike (closed-any (tableOf P)) limit l → Matched ps P l (plainRun P limit) (second limit l)
   from-alike limit l B =
-      let G : Agree ps (tableOf P) (B .last) (B .lastReduced) = linked-agree (tableOf P) A (closed-any (tableOf P)) ps (oneMore mostArrays) (B .linked) in
+      let G : Agree ps (tableOf P) (B .last) (B .lastReduced) = linked-agree (tableOf P) A (closed-any (tableOf P)) ps (forEachPlace ps) (B .linked) in
       let q : second limit l ≡ ended (B .end) (B .steps) (B .lastReduced) [] = ap (second limit) (sym (append-nil l)) ∙ B .reducedIs [] in
       record {
         end = B .end;

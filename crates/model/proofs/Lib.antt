@@ -16,10 +16,11 @@ pub mod ReducedAccepted
 pub mod Match
 pub mod Linked
 pub mod Keep
--- no run is stuck, and a run keeps its state regular
+-- no run is stuck, a run keeps its state regular, and none of its states holds an empty class
 pub mod Safe
 pub mod SafeStep
 pub mod Kept
+pub mod EmptyClassLaws
 pub mod MatchEval
 pub mod MatchStep
 pub mod MatchRun

@@ -1,7 +1,7 @@
 -- What the rules say of two places, from what is said of any.
 -- Assumes nothing.
 use mathlib.Core.Path.{_≡_, refl, sym, _∙_}
-use Prim.Native.Nat.{ℕ, zero, suc, _+_, _<_}
+use Prim.Native.Nat.{ℕ, zero, suc, _<_}
 use native.Mathlib.Omega.{arith}
 use mathlib.Core.Bool.{Bool, true, false, not, _&&_, _||_}
 use lib.Dec.{ltb, leb, eqb}
@@ -18,14 +18,14 @@ and-true false = refl
 
 pub pair-accepted : PairAccepted
 unfolding acceptedPlaces
-pair-accepted c1 c2 = and-true (ltb (c1 + 1) c2)
+pair-accepted c1 c2 = and-true _
 
-pub pair-gap : (c1 c2 : ℕ) → acceptedPlaces (pair c1 c2) ≡ true → c1 + 1 < c2
-pair-gap c1 c2 h = ltb-true (c1 + 1) c2 (sym (pair-accepted c1 c2) ∙ h)
+pair-rises : (c1 c2 : ℕ) → acceptedPlaces (pair c1 c2) ≡ true → c1 < c2
+pair-rises c1 c2 h = ltb-true c1 c2 (sym (pair-accepted c1 c2) ∙ h)
 
 pub pair-class : PairClasses
 unfolding class
-pair-class c1 c2 h v = let l : c1 + 1 < c2 = pair-gap c1 c2 h in record {
+pair-class c1 c2 h v = let l : c1 < c2 = pair-rises c1 c2 h in record {
   below = λ k. omega (arith, weight-before c1 v k, weight-before c2 v (omega arith));
   atFirst = λ k. rw k (omega (arith, weight-at c1, weight-before c2 c1 (omega arith)));
   between = λ k j. omega (arith, weight-after c1 v k, weight-before c2 v j);
@@ -51,11 +51,16 @@ pair-held c1 c2 h l zero = first (eqb c1 0) refl
     first true e = rw (pair-class c1 c2 h 0 .atFirst (sym (eqb-true c1 0 e)))
     first false e = rw (pair-class c1 c2 h 0 .below (omega (arith, eqb-false c1 0 e)))
 pair-held c1 c2 h l (suc zero) =
-    let g : c1 + 1 < c2 = pair-gap c1 c2 h in
+    let g : c1 < c2 = pair-rises c1 c2 h in
     rw (le-leb c1 most (omega arith), pair-class c1 c2 h c1 .atFirst refl)
-pair-held c1 c2 h l (suc (suc zero)) =
-    let g : c1 + 1 < c2 = pair-gap c1 c2 h in
-    rw (le-leb (suc c1) most (omega arith), pair-class c1 c2 h (suc c1) .between (omega arith) (omega arith))
+pair-held c1 c2 h l (suc (suc zero)) = rw (le-leb (suc c1) most (omega (arith, g))) (between (eqb (suc c1) c2) refl)
+  where
+    g : c1 < c2
+    g = pair-rises c1 c2 h
+
+    between : (b : Bool) → eqb (suc c1) c2 ≡ b → eqb (class (pair c1 c2) (suc c1)) 2 ≡ not b && true
+    between true e = rw (pair-class c1 c2 h (suc c1) .atSecond (eqb-true (suc c1) c2 e))
+    between false e = rw (pair-class c1 c2 h (suc c1) .between (omega arith) (omega (arith, g, eqb-false (suc c1) c2 e)))
 pair-held c1 c2 h l (suc (suc (suc zero))) = rw (le-leb c2 most l, pair-class c1 c2 h c2 .atSecond refl)
 pair-held c1 c2 h l (suc (suc (suc (suc zero)))) = last (eqb c2 most) refl
   where

@@ -11,4 +11,5 @@ pub mod Agree
 pub mod Writer
 pub mod Accepted
 pub mod Demand3
+pub mod EmptyClasses
 pub mod Reasons

@@ -1,6 +1,6 @@
 -- What the rules say of c1 and c2: the case of two places. Proved in proofs/PairLaws.
 use mathlib.Core.Path.{_≡_}
-use Prim.Native.Nat.{ℕ, _+_, _<_, _≤_}
+use Prim.Native.Nat.{ℕ, suc, _<_, _≤_}
 use mathlib.Core.Bool.{true, not, _&&_, _||_}
 use lib.Dec.{ltb, leb, eqb}
 use Rattle.model.specs.Table.{most}
@@ -8,9 +8,9 @@ use Rattle.model.specs.Class.{acceptedPlaces, class, classHeld, pair, tr
 
 -- 13: which pairs are accepted (rule 3.1)
 abbrev pub PairAccepted : Type 0
-PairAccepted = (c1 c2 : ℕ) → acceptedPlaces (pair c1 c2) ≡ ltb (c1 + 1) c2
+PairAccepted = (c1 c2 : ℕ) → acceptedPlaces (pair c1 c2) ≡ ltb c1 c2
 
--- the class of a number (rule 3.2)
+-- the class of a number (rule 3.2); of neighbours no number is in between, and no class is numbered otherwise
 pub record PairClass (c1 c2 v : ℕ) : Type 0 where
   pub below : v < c1 → class (pair c1 c2) v ≡ 0
   pub atFirst : v ≡ c1 → class (pair c1 c2) v ≡ 1
@@ -25,8 +25,10 @@ PairClasses = (c1 c2 : ℕ) → acceptedPlaces (pair c1 c2) ≡ true → (v : �
 abbrev pub PairTracked : Type 0
 PairTracked = (c1 c2 v : ℕ) → tracked (pair c1 c2) v ≡ (eqb c1 v || eqb c2 v)
 
--- 15: no class above 4 is held, nor 0 where c1 is 0, nor 4 where c2 is the largest number (rule 7.6)
+-- which classes are empty: those above 4, 0 where c1 is 0, 2 where c2 is the number after c1, 4 where c2 is the largest number, and no other
+-- (rules 3.2, 7.6)
 abbrev pub PairHeld : Type 0
 PairHeld =
     (c1 c2 : ℕ) → acceptedPlaces (pair c1 c2) ≡ true → c2 ≤ most → (k : ℕ)
-    → classHeld (pair c1 c2) k ≡ (leb k 4 && (not (eqb k 0 && eqb c1 0) && not (eqb k 4 && eqb c2 most)))
+    → classHeld (pair c1 c2) k
+    ≡ (leb k 4 && (not (eqb k 0 && eqb c1 0) && (not (eqb k 2 && eqb (suc c1) c2) && not (eqb k 4 && eqb c2 most))))

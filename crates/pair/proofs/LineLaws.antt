@@ -15,6 +15,7 @@ use Rattle.table.specs.Checks.{tableCheck}
 use Rattle.table.proofs.Passing.{passing, passes}
 use Rattle.table.proofs.ReducedPasses.{passing-reduced}
 use Rattle.model.specs.Class.{pair}
+use Rattle.model.specs.State.{cellCount}
 use Rattle.model.specs.State.MachineKind.{plain, reduced}
 use Rattle.model.specs.Step.{Report}
 use Rattle.model.specs.Reduce.{reduce}
@@ -66,14 +67,14 @@ reduction-passes : (w : List ℕ) → tableCheck plain w ≡ Passes → tableChe
 reduction-passes w p = passes reduced (reduce w) (passing-reduced w (passing plain w p))
 
 -- the reduced run, in cells of the stated size
-reduced-runs : (Q cells l : List ℕ) (c1 c2 limit : ℕ) → tableCheck reduced Q ≡ Passes → placesCheck (pair c1 c2) ≡ Passes → length cells ≡ 4112
+reduced-runs : (Q cells l : List ℕ) (c1 c2 limit : ℕ) → tableCheck reduced Q ≡ Passes → placesCheck (pair c1 c2) ≡ Passes → length cells ≡ cellCount reduced
     → freshSaid reduced (pair c1 c2) Q cells l limit ≡ ranSaid l (reducedRun (pair c1 c2) Q limit l)
 unfolding freshSaid runChecks
-reduced-runs Q cells l c1 c2 limit p q n = rw (p, q, eq-eqb (length cells) 4112 n)
+reduced-runs Q cells l c1 c2 limit p q n = rw (p, q, eq-eqb (length cells) (cellCount reduced) n)
 
 pub reduced-said : (w lent Q cells cells′ l : List ℕ) (c1 c2 limit : ℕ) (a : Answered) (r : Line) → tableCheck plain w ≡ Passes
     → placesCheck (pair c1 c2) ≡ Passes
-    → length lent ≡ length w → Q ≡ reduceBuffer w (pair c1 c2) lent → length cells ≡ 4112
+    → length lent ≡ length w → Q ≡ reduceBuffer w (pair c1 c2) lent → length cells ≡ cellCount reduced
     → saidOf Q (frameOf Q true c1 c2) l a cells′ ≡ freshSaid reduced (pair c1 c2) Q cells l limit → r ≡ lineFrom (a .ran)
         → lineOf r ≡ lineSaid l (reducedRun (pair c1 c2) (reduce w) limit l)
 reduced-said w lent Q cells cells′ l c1 c2 limit a r p q s b n e h =

@@ -10,7 +10,7 @@ use Rattle.table.specs.declared.Verdict.{Verdict}
 use Rattle.table.specs.declared.Verdict.the-variants.{Passes, Refused}
 use Rattle.table.specs.Checks.{tableCheck, andThen, sizeCheck}
 
--- 13, of some place and the next (rules 3.1, 6.18); the refusal's place is 0
+-- 13 (rules 3.1, 6.18); the refusal's place is 0
 abbrev pub placesCheck : List ℕ → Verdict
 placesCheck ps = if acceptedPlaces ps then Passes else Refused 13 0
 

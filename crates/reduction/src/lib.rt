@@ -9,12 +9,11 @@ ghost use lib.ListN.{length};
 ghost use Rattle.model.specs.Class.{pair};
 ghost use Rattle.reduction.specs.Reduction.{placesCheck, reduceAnswer, reduceBuffer};
 
-// 13: the places of a pair have a gap.
+// 13: the first place of a pair is below the second.
 pub fn check_pair(c1: u32, c2: u32) -> Verdict
     ensures { λ r. ⌜ r ≡ placesCheck (pair c1 c2) ⌝ }
 {
-    let next = c1 as u64 + 1;
-    if next < c2 as u64 {
+    if c1 < c2 {
         return Verdict::Passes;
     }
     Verdict::Refused(13, 0)

@@ -179,9 +179,14 @@ module _ (c1 c2 k : ℕ) {n : ℕ} (e : n ≡ candidate 0 (pair c1 c2) k) where
   unfolding classHeld
   held-not h = rw (← e, lt-leb n most h)
 
-  pub held-by : n ≤ most → {q : ℕ} → q ≡ class (pair c1 c2) n → eqb q k ≡ classHeld (pair c1 c2) k
-  unfolding classHeld
-  held-by h d = rw (d, ← e, le-leb n most h)
+  module _ (h : n ≤ most) {q : ℕ} (d : q ≡ class (pair c1 c2) n) where
+    pub held-by : q ≡ k → true ≡ classHeld (pair c1 c2) k
+    unfolding classHeld
+    held-by z = rw (← e, le-leb n most h, ← d, eq-eqb q k z)
+
+    pub held-other : q ≢ k → false ≡ classHeld (pair c1 c2) k
+    unfolding classHeld
+    held-other z = rw (← e, le-leb n most h, ← d, ne-eqb q k z)
 
 -- ---- the variables
 module _ (t cells : List ℕ) (f : Frame) (m : Machine) where

@@ -20,7 +20,7 @@ use Rattle.model.specs.State.Value.{Truth, Uint, Class, Pointer}
 use Rattle.model.specs.Eval.{sizeOf, cellsLaid}
 use Rattle.model.specs.Agree.{arrayAt}
 use Rattle.model.specs.Accepted.{CanHave, HasType, Holds, InSequence, Regular, Started}
-use Rattle.model.proofs.ClassLaws.{class-held, places-rising}
+use Rattle.model.proofs.ClassLaws.{class-held, places-rise}
 use Rattle.model.proofs.Nested.{from}
 use Rattle.lists.proofs.BoolLaws.{and-left, and-right}
 use Rattle.runs.specs.RecordPromises.{CanFits, FitsCan}
@@ -187,7 +187,7 @@ module _ (m : MachineKind) (ps : List ℕ) (t : Table) (s : State) where
       where
         go : (b : Bool) → classed m t i ≡ b → Holds (classed m t i) (length (s .arrays)) (typeAt t i) (getD (s .vars) i (Uint 0))
             → (classed m t i ≡ true → (k : ℕ) × (getD (s .vars) i (Uint 0) ≡ Class k) × HeldClass ps k) → variableFits m ps t s i ≡ true
-        go true e v r = let k = r e in rw (e, k .1) (class-held ps (places-rising ps ok) (k .0) .1 (k .2))
+        go true e v r = let k = r e in rw (e, k .1) (class-held ps (places-rise ps ok) (k .0) .1 (k .2))
         go false e v r = rw e (holds-type (length (s .arrays)) (typeAt t i) (getD (s .vars) i (Uint 0)) (rw e at v))
 
     all-fits : recordFits m ps t s ≡ true

@@ -80,7 +80,7 @@ kindsFit m [] = true
 kindsFit plain (r ∷ rs) = not (r .reduced) && kindsFit plain rs
 kindsFit reduced (r ∷ rs) = kindsFit reduced rs
 
--- rules 7.8 to 7.11 (the cells are 4,096 or 4,112, by 14)
+-- rules 7.8 to 7.11 (the cells are 4,096 or 4,128, by 14)
 abbrev pub arraysFit : MachineKind → List ℕ → State → Bool
 arraysFit m ps s =
     leb (length (s .arrays)) mostArrays

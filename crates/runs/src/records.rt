@@ -37,7 +37,11 @@ fn class_held(f: Frame, k: u32) -> bool
     if 4294967295 < n {
         return false;
     }
-    class_of(f.c1, f.c2, n as u32) == k
+    let found = class_of(f.c1, f.c2, n as u32);
+    if found == k {
+        return true;
+    }
+    false
 }
 
 // A number and a base suit a variable's form, with so many arrays in the record.

@@ -1,6 +1,7 @@
--- The candidate is a number of 32 bits, and has the class; or it is too large.
+-- The candidate is a number of 32 bits, and has the class or another; or it is too large.
 -- Assumes nothing.
-use Rattle.runs.proofs.RecordCodeLaws.{held-not, held-by}
+use native.Mathlib.Omega.{arith}
+use Rattle.runs.proofs.RecordCodeLaws.{held-not, held-by, held-other}
 use borrow.Author.Needs.{needs}
 use Rattle.runs.proofs.records.class_held.Statement.{statement}
 use Rattle.runs.proofs.records.class_held.Tie as tie
@@ -9,7 +10,14 @@ returns : tie.Need-returns
 returns c = held-not _ _ _ (c .before .candidate-of .ensures) (c .if1 .taken)
 
 returns-2 : tie.Need-returns-2
-returns-2 c = held-by _ _ _ (c .before .before .candidate-of .ensures) (c .before .if1 .left) (c .class-of .ensures)
+returns-2 c =
+    let g = c .before .before .before in
+    held-by _ _ _ (g .candidate-of .ensures) (c .before .before .if1 .left) (c .before .class-of .ensures) (omega (arith, c .if2 .taken))
+
+returns-3 : tie.Need-returns-3
+returns-3 c =
+    let g = c .before .before .before in
+    held-other _ _ _ (g .candidate-of .ensures) (c .before .before .if1 .left) (c .before .class-of .ensures) (λ z. omega (arith, z, c .if2 .left))
 
 pub class-held-spec : {M : Type 1} → statement M
-class-held-spec = tie.close (tie.spec (λ c κs. search needs) returns (λ c. search needs) (λ c κs. search needs) returns-2)
+class-held-spec = tie.close (tie.spec (λ c κs. search needs) returns (λ c. search needs) (λ c κs. search needs) returns-2 returns-3)

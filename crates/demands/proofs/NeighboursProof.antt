@@ -1,0 +1,57 @@
+-- Neighbours on one terminal card.
+-- Assumes nothing.
+use mathlib.Core.Path.{_≡_, refl}
+use mathlib.Core.Logic.{inl, inr}
+use Prim.Native.Nat.{ℕ, _+_}
+use native.Mathlib.Omega.{arith}
+use mathlib.Core.Bool.{Bool, true, false}
+use mathlib.Core.List.{List}
+use borrow.Author.Tests.{lt-ltb}
+use Rattle.lists.specs.If.{if_then_else_}
+use Rattle.table.specs.declared.Verdict.the-variants.{Passes, Refused}
+use Rattle.table.proofs.Passing.{passing, accepted}
+use Rattle.model.specs.Class.{class, pair}
+use Rattle.model.specs.Table.{Table, tableOf}
+use Rattle.model.specs.State.{MachineKind, State}
+use Rattle.model.proofs.ClassLaws.{cell-for-each-place, class-held}
+use Rattle.model.proofs.Demand3Proof.{fresh-can}
+use Rattle.model.proofs.Kept.{fresh-regular}
+use Rattle.model.proofs.EmptyClassLaws.{holds-none, never-holds-empty, run-hands-back}
+use Rattle.runs.specs.Record.{recordFits}
+use Rattle.runs.specs.RecordPromises.{CanBe}
+use Rattle.runs.proofs.RecordLaws.{fits-can}
+use Rattle.demands.specs.Neighbours.{Starts, NoStateHoldsEmpty, EmptyRefused, Neighbours, cellsFor}
+use Rattle.demands.proofs.RefusalLaws.{pair-checked}
+
+-- a run starts from a state that its table can have
+start-can : (m : MachineKind) (ps : List ℕ) (t : Table) (s : State) → Starts m ps t s → CanBe m ps t s
+start-can m ps t s (inl e) = rw e (record { can = fresh-can ps m t; regular = fresh-regular ps m t })
+start-can m ps t s (inr e) = fits-can m ps t s e
+
+no-state-holds-empty : NoStateHoldsEmpty
+no-state-holds-empty m ps t pass s start choices nl n r after =
+    let B = start-can m ps (tableOf t) s start in
+    never-holds-empty ps m (tableOf t) (accepted m t (passing m t pass)) s (B .can) (B .regular) choices nl n r after
+
+empty-refused : EmptyRefused
+empty-refused m ps t s i k e empty = go (recordFits m ps t s) refl
+  where
+    go : (b : Bool) → recordFits m ps t s ≡ b → (if b then Passes else Refused 15 0) ≡ Refused 15 0
+    go true f = let B = fits-can m ps t s f in absurd (empty (holds-none ps m t s (B .can) (B .regular) i k e))
+    go false f = refl
+
+may-need : cellsFor 0 1 1 ≡ 1 + 2
+unfolding class
+may-need = refl
+
+pub neighbours : Neighbours
+neighbours = record {
+  pairs = pair-checked;
+  empty = class-held;
+  never = no-state-holds-empty;
+  states = run-hands-back;
+  refused = empty-refused;
+  atMost = λ c1 c2 h len. omega (arith, cell-for-each-place (pair c1 c2) (rw (lt-ltb c1 c2 h)) len);
+  mayNeed = may-need;
+  cells = refl;
+}
