@@ -88,10 +88,11 @@ classNumber (Pointer r p) = 0
 module _ (ps : List ℕ) (m : MachineKind) (t : Table) where
   -- a state that the table can have, and that is regular
   pub holds-none : (s : State) → CanHave ps m t s → Regular ps m t s → NoEmptyClass ps s
-  holds-none s C R i k e =
-      split (t .decls) i (λ l. absurd (omega (arith, sym (ap formOf e) ∙ ap formOf (List·getD-eq-default (s .vars) (Uint 0) {n = i}
-          (omega (arith, C .variables)))))) (λ l. go (classed m t i) refl l (C .variable i l))
+  holds-none s C R i k e = split (t .decls) i (λ l. absurd (past l)) (λ l. go (classed m t i) refl l (C .variable i l))
     where
+      past : t .decls ≤ i → ⊥
+      past l = omega (arith, sym (ap formOf e) ∙ ap formOf (List·getD-eq-default (s .vars) (Uint 0) {n = i} (omega (arith, C .variables))))
+
       go : (b : Bool) → classed m t i ≡ b → i < t .decls → Holds b (length (s .arrays)) (typeAt t i) (getD (s .vars) i (Uint 0)) → HeldClass ps k
       go true c l h =
           let held = R .classes i l c in
@@ -103,9 +104,9 @@ module _ (ps : List ℕ) (m : MachineKind) (t : Table) where
   after-none A zero s r C R cs g e = subst (NoEmptyClass ps) e (holds-none s C R)
   after-none A (suc n) s r C R cs g (f, made, left, e, rest) =
       let h : Held m (MoveOk m (CanHave ps m t)) cs (gives (to made) left) =
-          subst (Held m (MoveOk m (CanHave ps m t)) cs) e (safe-step ps m t A s C (going t s f) .held cs) in
+      subst (Held m (MoveOk m (CanHave ps m t)) cs) e (safe-step ps m t A s C (going t s f) .held cs) in
       let k : Given (MoveRegular ps m t) (gives (to made) left) =
-          subst (Given (MoveRegular ps m t)) e (keeps-step ps m t A s C R (going t s f) .kept cs g) in
+      subst (Given (MoveRegular ps m t)) e (keeps-step ps m t A s C R (going t s f) .kept cs g) in
       after-none A n made r (h .0) (k .0) left (k .1) rest
 
 pub never-holds-empty : NeverHoldsEmpty
