@@ -1,5 +1,5 @@
 -- Neighbours on one terminal card: a pair is any c1 below c2, next to each other or apart (rules 3.1, 3.7, 3.23, 6.18, 7.6). Which pairs pass, that
--- no state holds an empty class, and how many cells a reduced array may need; said of the definitions that those of the public promises are made of.
+-- no state holds an empty class, and how many cells a reduced array may need; said of the definitions of which those of the public promises are made.
 -- That demand 3 holds of neighbours as of any pair is in Demand3. Proved in proofs/NeighboursProof.
 use mathlib.Core.Path.{_≡_}
 use mathlib.Core.Logic.{_⊎_}

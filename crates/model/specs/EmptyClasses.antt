@@ -16,8 +16,8 @@ use Rattle.model.specs.Accepted.{Accepted, CanHave, Regular}
 use Rattle.model.specs.Demand3.{Numbers}
 
 module _ (ps : List ℕ) (t : Table) where
-  -- r is the state n steps after s, under these choices: s itself after none; else s is not done, and a step makes of it the state from which r
-  -- is one step less away (rules 2.16, 2.28). A step that ends the run makes no state: it leaves s as it was (rule 2.30)
+  -- r is the state n steps after s, under these choices: s itself after none; else s is not done, a step makes another state of it, and r is one
+  -- step fewer after that one (rules 2.16, 2.28). A step that ends the run makes no state: it leaves s as it was (rule 2.30)
   abbrev pub StateAfter : ℕ → State → List ℕ → State → Type 0
   StateAfter zero s choices r = s ≡ r
   StateAfter (suc n) s choices r =
