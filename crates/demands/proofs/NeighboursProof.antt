@@ -40,9 +40,10 @@ empty-refused m ps t s i k e empty = go (recordFits m ps t s) refl
     go true f = let B = fits-can m ps t s f in absurd (empty (holds-none ps m t s (B .can) (B .regular) i k e))
     go false f = refl
 
-may-need : cellsFor 0 1 1 ≡ 1 + 2
+-- 0 and 1, and a length of 1
+needs-three : cellsFor 0 1 1 ≡ 3
 unfolding class
-may-need = refl
+needs-three = refl
 
 pub neighbours : Neighbours
 neighbours = record {
@@ -52,6 +53,6 @@ neighbours = record {
   states = run-hands-back;
   refused = empty-refused;
   atMost = λ c1 c2 h len. omega (arith, cell-for-each-place (pair c1 c2) (rw (lt-ltb c1 c2 h)) len);
-  mayNeed = may-need;
+  mayNeed = (0, 1, 1, omega arith, needs-three);
   cells = refl;
 }

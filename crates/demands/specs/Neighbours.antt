@@ -55,8 +55,7 @@ pub record Neighbours : Type 0 where
   pub never : NoStateHoldsEmpty
   pub states : RunHandsBackOne
   pub refused : EmptyRefused
-  -- a reduced array needs at most length + 2 cells, and with 0 and 1 tracked one of length 1 needs as many; so many more for each array are there
-  -- (rule 3.7)
+  -- a reduced array needs at most length + 2 cells, with some pair and length it needs as many, and so many more for each array are there (rule 3.7)
   pub atMost : (c1 c2 : ℕ) → c1 < c2 → (len : ℕ) → cellsFor c1 c2 len ≤ len + 2
-  pub mayNeed : cellsFor 0 1 1 ≡ 1 + 2
+  pub mayNeed : (c1 c2 len : ℕ) × (c1 < c2) × (cellsFor c1 c2 len ≡ len + 2)
   pub cells : cellCount reduced ≡ cellCount plain + mostArrays * 2
