@@ -1,9 +1,9 @@
 #!/usr/bin/env python3
 """Writes stdin and stdout of this program: cases of files, each after its length, and what must be printed of each.
 
-Run as: make_cases.py VECTORS .., folders of vectors for `pairrun`, cases.bin and index.txt, which were handed out with the demands and the requests:
-the first, and those of the last request. The first cases are worked out here, by hand, from docs/RULES.md; the others are the vectors that are
-refused, with their output, and the shorter ones that are not, which pass. Neighbours that the first vectors refuse are left out: they are a pair now.
+Run as: make_cases.py FIRST LAST, two folders of vectors for `pairrun`, cases.bin and index.txt: those handed out with the demands, and those of the
+last request. The first cases are worked out here, by hand, from docs/RULES.md; the others are the vectors that are refused, with their output, and
+the shorter ones that are not, which pass. One of the first vectors is left out: it refuses neighbours, which are a pair now.
 """
 import pathlib
 import struct
@@ -182,7 +182,8 @@ passes(T, c1=0, c2=BIG)
 CASES = [(d, "refused 5 line 40" if e == "passes 41 differs" else e) for d, e in CASES]
 
 
-def add_vectors(vectors):
+def add_vectors(vectors, void):
+    """Adds the vectors of a folder, but for those that are void: a test of output, c1 and c2."""
     data = (vectors / "cases.bin").read_bytes()
     at = 0
     for line in (vectors / "index.txt").read_text().splitlines():
@@ -192,7 +193,7 @@ def add_vectors(vectors):
         bytes_ = data[at + 4 : at + 4 + n]
         at += 4 + n
         c1, c2, limit = struct.unpack_from("<3I", bytes_) if n >= 12 else (0, 0, 0)
-        if limit == BIG or output == "refused 13 line 0" and c1 + 1 == c2:
+        if limit == BIG or void(output, c1, c2):
             continue
         if not output.startswith("refused"):
             if n > 2000:
@@ -202,8 +203,9 @@ def add_vectors(vectors):
 
 
 def main():
-    for folder in sys.argv[1:]:
-        add_vectors(pathlib.Path(folder))
+    first, last = map(pathlib.Path, sys.argv[1:])
+    add_vectors(first, lambda output, c1, c2: output == "refused 13 line 0" and c1 + 1 == c2)
+    add_vectors(last, lambda output, c1, c2: False)
 
     # the rules of rules.py say the same of every case
     for given, expected in CASES:

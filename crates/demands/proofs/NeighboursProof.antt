@@ -14,6 +14,7 @@ use Rattle.model.specs.Class.{class, pair}
 use Rattle.model.specs.Table.{Table, tableOf}
 use Rattle.model.specs.State.{MachineKind, State}
 use Rattle.model.proofs.ClassLaws.{cell-for-each-place, class-held}
+use Rattle.model.proofs.PairLaws.{empty-between}
 use Rattle.model.proofs.Demand3Proof.{fresh-can}
 use Rattle.model.proofs.Kept.{fresh-regular}
 use Rattle.model.proofs.EmptyClassLaws.{holds-none, never-holds-empty, run-hands-back}
@@ -48,6 +49,7 @@ needs-three = refl
 pub neighbours : Neighbours
 neighbours = record {
   pairs = pair-checked;
+  between = empty-between;
   empty = class-held;
   never = no-state-holds-empty;
   states = run-hands-back;
@@ -55,4 +57,5 @@ neighbours = record {
   atMost = λ c1 c2 h len. omega (arith, cell-for-each-place (pair c1 c2) (rw (lt-ltb c1 c2 h)) len);
   mayNeed = (0, 1, 1, omega arith, needs-three);
   cells = refl;
+  forEachArray = refl;
 }

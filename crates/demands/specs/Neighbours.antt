@@ -14,6 +14,7 @@ use Rattle.table.specs.Checks.{tableCheck}
 use Rattle.reduction.specs.Reduction.{placesCheck}
 use Rattle.model.specs.Class.{EmptyClass, ClassHeldRight, pair}
 use Rattle.model.specs.Table.{Table, tableOf}
+use Rattle.model.specs.Pair.{EmptyBetween}
 use Rattle.model.specs.State.{MachineKind, State, mostArrays, cellCount, fresh}
 use Rattle.model.specs.State.MachineKind.{plain, reduced}
 use Rattle.model.specs.State.Value.{Uint, Class}
@@ -49,13 +50,17 @@ cellsFor c1 c2 len = sizeOf (pair c1 c2) (made 0 len true)
 
 pub record Neighbours : Type 0 where
   pub pairs : PairBelow
-  -- a class is empty exactly where `classHeld` is false; where that is so of a pair is in Demand2, `holds` (rules 3.2, 7.6)
+  -- between neighbours class 2 is empty; any class is exactly where `classHeld` is false, and where that is so of a pair is in Demand2, `holds`
+  -- (rules 3.2, 7.6)
+  pub between : EmptyBetween
   pub empty : ClassHeldRight
   -- none is held by a state of a run, or by a record that 15 does not refuse (rules 3.23, 7.6)
   pub never : NoStateHoldsEmpty
   pub states : RunHandsBackOne
   pub refused : EmptyRefused
-  -- a reduced array needs at most length + 2 cells, with some pair and length it needs as many, and so many more for each array are there (rule 3.7)
+  -- a reduced array needs at most length + 2 cells, and with some pair and length it needs them all; the reduced machine has 4,128 cells, two more for
+  -- each array (rules 3.7, 9.11)
   pub atMost : (c1 c2 : ℕ) → c1 < c2 → (len : ℕ) → cellsFor c1 c2 len ≤ len + 2
   pub mayNeed : (c1 c2 len : ℕ) × (c1 < c2) × (cellsFor c1 c2 len ≡ len + 2)
-  pub cells : cellCount reduced ≡ cellCount plain + mostArrays * 2
+  pub cells : cellCount reduced ≡ 4128
+  pub forEachArray : cellCount reduced ≡ cellCount plain + mostArrays * 2

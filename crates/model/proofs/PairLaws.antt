@@ -5,12 +5,13 @@ use Prim.Native.Nat.{ℕ, zero, suc, _<_}
 use native.Mathlib.Omega.{arith}
 use mathlib.Core.Bool.{Bool, true, false, not, _&&_, _||_}
 use lib.Dec.{ltb, leb, eqb}
-use borrow.Author.Tests.{ltb-true, lt-leb, le-leb, ne-eqb, eqb-true, eqb-false}
+use borrow.Author.Tests.{ltb-true, lt-ltb, lt-leb, le-leb, ne-eqb, eqb-true, eqb-false}
 use Rattle.lists.specs.If.{if_then_else_}
 use Rattle.model.specs.Table.{most}
 use Rattle.model.specs.Class.{acceptedPlaces, candidate, class, classHeld, pair, tracked}
-use Rattle.model.specs.Pair.{PairAccepted, PairClasses, PairHeld, PairTracked}
+use Rattle.model.specs.Pair.{EmptyBetween, PairAccepted, PairClass, PairClasses, PairHeld, PairTracked}
 use Rattle.model.proofs.ClassLaws.{weight-after, weight-at, weight-before}
+use Rattle.model.proofs.Memory.{split}
 
 and-true : (b : Bool) → (b && true) ≡ b
 and-true true = refl
@@ -32,6 +33,15 @@ pair-class c1 c2 h v = let l : c1 < c2 = pair-rises c1 c2 h in record {
   atSecond = λ k. rw k (omega (arith, weight-at c2, weight-after c1 c2 (omega arith)));
   above = λ k. omega (arith, weight-after c1 v (omega arith), weight-after c2 v k);
 }
+
+pub empty-between : EmptyBetween
+empty-between c (n, l, e) =
+    split n c
+    (λ h. split c n (λ k. omega (arith, e, K .atFirst (omega arith))) (λ k. omega (arith, e, K .below k)))
+    (λ h. split n (suc c) (λ k. omega (arith, e, K .atSecond (omega arith))) (λ k. omega (arith, e, K .above k)))
+  where
+    K : PairClass c (suc c) n
+    K = pair-class c (suc c) (pair-accepted c (suc c) ∙ lt-ltb c (suc c) (omega arith)) n
 
 pub pair-tracked : PairTracked
 unfolding tracked
@@ -68,8 +78,11 @@ pair-held c1 c2 h l (suc (suc (suc (suc zero)))) = last (eqb c2 most) refl
     last true e = rw (lt-leb (suc c2) most (omega (arith, eqb-true c2 most e)))
     last false e = rw (le-leb (suc c2) most (omega (arith, eqb-false c2 most e)), pair-class c1 c2 h (suc c2) .above (omega arith))
 pair-held c1 c2 h l (suc (suc (suc (suc (suc k))))) =
-    rw (pair-class c1 c2 h (suc c2) .above (omega arith), ne-eqb 4 (suc (suc (suc (suc (suc k))))) (λ e. omega arith), lt-leb
-        (suc (suc (suc (suc (suc k))))) 4 (omega arith))
+    rw (
+      pair-class c1 c2 h (suc c2) .above (omega arith),
+      ne-eqb 4 (suc (suc (suc (suc (suc k))))) (λ e. omega arith),
+      lt-leb (suc (suc (suc (suc (suc k))))) 4 (omega arith),
+    )
     (never (leb (suc c2) most))
   where
     never : (b : Bool) → (b && false) ≡ false

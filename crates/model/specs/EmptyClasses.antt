@@ -23,8 +23,8 @@ module _ (ps : List ℕ) (t : Table) where
   StateAfter (suc n) s choices r =
       (finished t s ≡ false) × (made : State) × (left : List ℕ) × (step ps t s choices ≡ gives (to made) left) × StateAfter n made left r
 
-  -- these are the states of a run: the one that it hands back is one of them, after as many steps as it counts, or one less where the last
-  -- step ended it (rules 2.29, 2.30)
+  -- these are the states of a run: the one that it hands back is one of them, after as many steps as it counts or one fewer (a step that ends the
+  -- run may count, and makes no state: rules 2.29, 2.30; which ends do is in `after` of Step)
   abbrev pub HandsBackOne : State → List ℕ → Report → Type 0
   HandsBackOne s choices (ended e n r left) = (i : ℕ) × StateAfter i s choices r × (i ≤ n) × (n ≤ suc i)
   HandsBackOne s choices noEnd = Unit {0}
@@ -36,8 +36,8 @@ RunHandsBackOne = (ps : List ℕ) (t : Table) (limit : ℕ) (s : State) (choices
 abbrev pub NoEmptyClass : List ℕ → State → Type 0
 NoEmptyClass ps s = (i k : ℕ) → getD (s .vars) i (Uint 0) ≡ Class k → HeldClass ps k
 
--- No state holds an empty class: none that a table can have, whole, and none that a run comes to from such a state, under choices of 32 bits
--- (rule 3.23)
+-- No state holds an empty class (rule 3.23): none that a table can have and 15 does not refuse (`CanHave` and `Regular`), and none that a run comes to
+-- from such a state, under choices of 32 bits
 abbrev pub NeverHoldsEmpty : Type 0
 NeverHoldsEmpty =
     (ps : List ℕ) (m : MachineKind) (t : Table) → Accepted m t → (s : State) → CanHave ps m t s → Regular ps m t s

@@ -4,13 +4,13 @@ use Prim.Native.Nat.{ℕ, suc, _<_, _≤_}
 use mathlib.Core.Bool.{true, not, _&&_, _||_}
 use lib.Dec.{ltb, leb, eqb}
 use Rattle.model.specs.Table.{most}
-use Rattle.model.specs.Class.{acceptedPlaces, class, classHeld, pair, tracked}
+use Rattle.model.specs.Class.{EmptyClass, acceptedPlaces, class, classHeld, pair, tracked}
 
 -- 13: which pairs are accepted (rule 3.1)
 abbrev pub PairAccepted : Type 0
 PairAccepted = (c1 c2 : ℕ) → acceptedPlaces (pair c1 c2) ≡ ltb c1 c2
 
--- the class of a number (rule 3.2); of neighbours no number is in between, and no class is numbered otherwise
+-- the class of a number (rule 3.2); between neighbours there is no number, and the other classes keep their numbers
 pub record PairClass (c1 c2 v : ℕ) : Type 0 where
   pub below : v < c1 → class (pair c1 c2) v ≡ 0
   pub atFirst : v ≡ c1 → class (pair c1 c2) v ≡ 1
@@ -25,8 +25,12 @@ PairClasses = (c1 c2 : ℕ) → acceptedPlaces (pair c1 c2) ≡ true → (v : �
 abbrev pub PairTracked : Type 0
 PairTracked = (c1 c2 v : ℕ) → tracked (pair c1 c2) v ≡ (eqb c1 v || eqb c2 v)
 
--- which classes are empty: those above 4, 0 where c1 is 0, 2 where c2 is the number after c1, 4 where c2 is the largest number, and no other
--- (rules 3.2, 7.6)
+-- between neighbours there is no number: class 2 is empty (rule 3.2)
+abbrev pub EmptyBetween : Type 0
+EmptyBetween = (c : ℕ) → EmptyClass (pair c (suc c)) 2
+
+-- which numbers are no class, or an empty one: those above 4, 0 where c1 is 0, 2 where c2 is the number after c1, 4 where c2 is the largest number, and
+-- no other (rules 3.2, 7.6)
 abbrev pub PairHeld : Type 0
 PairHeld =
     (c1 c2 : ℕ) → acceptedPlaces (pair c1 c2) ≡ true → c2 ≤ most → (k : ℕ)
