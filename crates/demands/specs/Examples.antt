@@ -11,12 +11,12 @@ use mathlib.Core.Bool.{true}
 use Rattle.model.specs.Class.{pair}
 use Rattle.model.specs.State.{MachineKind, cellCount}
 use Rattle.model.specs.State.MachineKind.{plain, reduced}
-use Rattle.model.specs.Eval.{sizeOf}
-use Rattle.model.specs.Step.{End, made}
+use Rattle.model.specs.Step.{End}
 use Rattle.model.specs.Step.End.{done, assertFalse, outOfSteps, choiceNotAllowed, noChoiceLeft}
 use Rattle.model.specs.Step.Report.{ended, noEnd}
 use Rattle.runs.specs.Answers.{Said, freshSaid}
 use Rattle.runs.specs.Answers.Said.{refusal, reports}
+use Rattle.demands.specs.Neighbours.{cellsFor}
 
 -- the table T, line by line (rule 8.9)
 unfoldable pub T : List ℕ
@@ -53,7 +53,7 @@ runReduced table limit choices = shown (freshSaid reduced (pair 1 3) table (lent
 
 -- how many cells a reduced array of a length takes
 abbrev pub takes : ℕ → ℕ → ℕ → Shown
-takes c1 c2 len = cells (sizeOf (pair c1 c2) (made 0 len true))
+takes c1 c2 len = cells (cellsFor c1 c2 len)
 
 unfoldable pub results : List Shown
 results =
