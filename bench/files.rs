@@ -226,7 +226,23 @@ fn wrong_mark(&[kind, a, ..]: &Line, variables: &[Line], reduced: bool) -> bool 
     }
 }
 
-/// Checks 4 to 12.
+/// The first row that breaks check 16, the loops being closed.
+fn first_shared(rows: &[Line]) -> Option<usize> {
+    let mut iterators = Vec::new();
+    rows.iter().position(|&[kind, a, ..]| {
+        match kind {
+            38 | 42 if iterators.contains(&a) => return true,
+            38 | 42 => iterators.push(a),
+            39 => {
+                iterators.pop();
+            }
+            _ => {}
+        }
+        false
+    })
+}
+
+/// Checks 4 to 12 and 16.
 fn check_table(words: &[u32], reduced: bool) -> Result<(), Refusal> {
     let (lines, rest) = words.as_chunks::<4>();
     if !rest.is_empty() {
@@ -287,6 +303,9 @@ fn check_table(words: &[u32], reduced: bool) -> Result<(), Refusal> {
     }
     if let Some(i) = lines.iter().position(|line| wrong_mark(line, variables, reduced)) {
         return refuse(12, declarations + i);
+    }
+    if let Some(i) = first_shared(rows) {
+        return refuse(16, first_row + i);
     }
     Ok(())
 }

@@ -117,8 +117,9 @@ def chain(depth):
     return [(17, 0, 0, 0)] + [(20, i, i, 0) for i in range(depth - 1)]
 
 
-def loops(n):
-    return [U, C] + [(38, 0, 0, 0)] * n + [END] * n
+def loops(*iterators):
+    """Loops one inside another, with these iterators of nine."""
+    return [U] * 9 + [C] + [(38, v, 0, 0) for v in iterators] + [END] * len(iterators)
 
 
 def flat(lines):
@@ -144,11 +145,16 @@ REFUSED = [
     (flat([C, (19, 0, 0, 0)]), (9, 1)),
     (flat(chain(13)), (10, 12)),
     (flat([SKIP, END]), (11, 1)),
-    (flat(loops(9)), (11, 10)),
+    (flat(loops(*range(9))), (11, 18)),
     (flat([MU, C, (33, 0, 0, 0)]), (12, 2)),
+    (flat(loops(0, 0)), (16, 11)),
+    (flat(loops(0, 1, 2, 3, 4, 5, 6, 0)), (16, 17)),
+    (flat([MU, C, (38, 0, 0, 0), (38, 0, 0, 0), END, END]), (16, 3)),
     # more than one check: the first that is broken
     (flat([(33, 0, 0, 0), (99, 0, 0, 0)]) + [1], (4, 0)),
     (flat([MU, C, (33, 0, 0, 0), (39, 1, 0, 0)]), (7, 3)),
+    (flat([MU, C, (38, 0, 0, 0), (38, 0, 0, 0), END, END, (33, 0, 0, 0)]), (12, 6)),
+    (flat(loops(0, 0) + [END]), (11, 14)),
 ]
 
 
@@ -210,7 +216,7 @@ def reader():
         for fill in 7, BIG:
             case(READER, "lines %d" % len(lines), READ_WORDS, fill, data=blocks(lines))
     # the reader takes any words, and no pair is asked for
-    for lines in [(99, BIG, 0, 1)], [(40, 0, 0, 0), (1, 1, 1, 1)] * 20, [(BIG, BIG, BIG, BIG)] * 31, [SKIP] * 1312:
+    for lines in loops(0, 0), loops(0, 1, 2, 3, 4, 5, 6, 0), [(99, BIG, 0, 1)], [(40, 0, 0, 0), (1, 1, 1, 1)] * 20, [(BIG, BIG, BIG, BIG)] * 31, [SKIP] * 1312:
         case(READER, "lines %d" % len(lines), READ_WORDS, 7, (5, 5), blocks(lines))
     case(READER, "lines 16", READ_WORDS, 0, data=blocks(T))
     for data, refusal in REFUSED_FILES:
@@ -232,7 +238,7 @@ def writer():
     for lines in (*PASSING.values(), FORTY, [SKIP] * 62):
         for fill in 7, 255:
             case(WRITER, "bytes %d" % file_bytes(lines), WRITTEN_BYTES, fill, data=packed(flat(lines)))
-    for lines in chain(12), loops(8), [(17, BIG, 0, 0)] * 40:
+    for lines in chain(12), loops(*range(8)), loops(0) + loops(0)[10:], [(17, BIG, 0, 0)] * 40:
         case(WRITER, "bytes %d" % file_bytes(lines), WRITTEN_BYTES, 1, (5, 5), packed(flat(lines)))
     case(WRITER, "bytes 512", WRITTEN_BYTES, 0, data=packed(flat(T)))
     case(WRITER, "refused 5 line 6", WRITTEN_BYTES, 7, data=packed(flat(Table(T).reduced().lines)))
@@ -292,6 +298,9 @@ def checks():
         ([U, C, (42, 0, 0, 0), END], (12, 2)),
         ([MU, C, (33, 0, 0, 0)], (12, 2)),
         ([MU, C] + [(42, 0, 0, 0)] * 9 + [END] * 9, (11, 10)),
+        ([MU, C] + [(42, 0, 0, 0)] * 8 + [END] * 8, (16, 3)),
+        ([MU, U, C, (42, 0, 0, 0), (38, 1, 0, 0), (42, 0, 0, 0), END, END, END], (16, 5)),
+        ([MU, U, C, (42, 0, 0, 0), (38, 1, 0, 0), END, END, (42, 0, 0, 0), END], None),
     ):
         case(REDUCED, "passes" if refusal is None else refused(refusal), data=packed(flat(lines)))
     for words in [32], [32, 0], [32, 0, 0], flat(T) + [32]:

@@ -3,7 +3,8 @@
 
 Run as: make_cases.py FIRST LAST, two folders of vectors for `pairrun`, cases.bin and index.txt: those handed out with the demands, and those of the
 last request. The first cases are worked out here, by hand, from docs/RULES.md; the others are the vectors that are refused, with their output, and
-the shorter ones that are not, which pass. One of the first vectors is left out: it refuses neighbours, which are a pair now.
+the shorter ones that are not, which pass. Of the first vectors one is left out, which refuses neighbours, a pair now; and those with a loop in a loop
+of the same iterator, which passed then, are refused with 16.
 """
 import pathlib
 import struct
@@ -49,7 +50,8 @@ def chain(depth):
 
 
 def loops(n):
-    return [(2, 0, 0, 0), (17, 1, 0, 0)] + [(38, 0, 0, 0)] * n + [END] * n
+    """Loops one inside another, each with its own iterator."""
+    return [(2, 0, 0, 0)] * n + [(17, 1, 0, 0)] + [(38, v, 0, 0) for v in range(n)] + [END] * n
 
 
 def worst():
@@ -112,7 +114,7 @@ refused(chain(13), 10, 12)
 refused(chain(200), 10, 12)
 passes(worst())
 passes(loops(8))
-refused(loops(9), 11, 10)
+refused(loops(9), 11, 18)
 passes(T)
 # each check
 refused([SKIP, (31, 0, 0, 0)], 5, 1)
@@ -141,12 +143,28 @@ refused([(3, 0, 0, 0), (17, 3, 0, 0), (38, 0, 0, 0), END], 9, 2)
 refused([SKIP, END], 11, 1)
 refused([(2, 0, 0, 0), (17, 0, 0, 0), (38, 0, 0, 0), (38, 0, 0, 0), END], 11, 2)
 refused([(2, 1, 0, 0), (17, 0, 0, 0), (33, 0, 0, 0)], 12, 2)
+# an iterator of two open loops, at the line of the inner one
+U, MU, P, MP, C = (2, 0, 0, 0), (2, 1, 0, 0), (3, 0, 0, 0), (3, 1, 0, 0), (17, 1, 0, 0)
+NEXT, OTHER = (38, 0, 0, 0), (38, 1, 0, 0)
+for iterator in U, MU:
+    refused([iterator, C, NEXT, NEXT, END, END], 16, 3)
+    refused([iterator, U, C, NEXT, OTHER, NEXT, END, END, END], 16, 5)
+    refused([iterator, U, C, NEXT, OTHER, END, NEXT, END, END], 16, 6)
+    refused([iterator, U, C, NEXT, OTHER, OTHER, END, END, NEXT, END, END], 16, 5)
+    passes([iterator, C, NEXT, END, NEXT, END])
+    passes([iterator, U, C, NEXT, OTHER, END, OTHER, END, END, OTHER, NEXT, END, END])
+passes([U, C, NEXT, (33, 0, 0, 0), END])
+refused(loops(7)[:-7] + [NEXT] + [END] * 8, 16, 15)
+refused([(2, 0, 0, 0)] * 32 + [C, (38, 31, 0, 0), (38, 31, 0, 0), END, END], 16, 34)
 # the order decides
+refused([MU, C, NEXT, NEXT, END, END, (33, 0, 0, 0)], 12, 6)
+refused([U, C, NEXT, NEXT, END, END, END], 11, 6)
+refused([U, C, NEXT, NEXT, END, END], 16, 3, c1=5, c2=5)
+refused([U, C] + [NEXT] * 9 + [END] * 9, 11, 10)
 refused([(2, 1, 0, 0), (17, 0, 0, 0), (33, 0, 0, 0), (39, 1, 0, 0)], 7, 3)
 refused([(17, 0, 1, 0), (99, 0, 0, 0)], 5, 1)
 refused([SKIP, END], 11, 1, c1=5, c2=5)
-# reduced tables: kinds, and marks that the reduction would not give
-U, MU, P, MP, C = (2, 0, 0, 0), (2, 1, 0, 0), (3, 0, 0, 0), (3, 1, 0, 0), (17, 1, 0, 0)
+# reduced tables: kinds, marks that the reduction would not give, iterators of two open loops
 reduced([P, (16, 0, 0, 0), (28, 0, 0, 0), (29, 0, 0, 0), (40, 0, 1, 0)], "passes reduced")
 reduced([P, (16, 0, 0, 0), (19, 0, 0, 0)], "refused 5 line 2")
 reduced([P, (16, 0, 0, 0), (26, 0, 0, 0)], "refused 5 line 2")
@@ -164,6 +182,13 @@ reduced([MU, C, (38, 0, 0, 0), END], "refused 12 line 2")
 reduced([U, C, (42, 0, 0, 0), END], "refused 12 line 2")
 reduced([MU, C, (33, 0, 0, 0)], "refused 12 line 2")
 reduced([P, C, (42, 0, 0, 0), END], "refused 9 line 2")
+MARKED = (42, 0, 0, 0)
+reduced([MU, U, C, MARKED, OTHER, END, END, MARKED, END], "passes reduced")
+reduced([MU, C, MARKED, MARKED, END, END], "refused 16 line 3")
+reduced([MU, U, C, MARKED, OTHER, MARKED, END, END, END], "refused 16 line 5")
+reduced([MU, U, C, MARKED, OTHER, OTHER, END, END, END], "refused 16 line 5")
+reduced([U, C, NEXT, NEXT, END, END], "refused 16 line 3")
+reduced([MU, C, MARKED, NEXT, END, END], "refused 12 line 3")
 # the pair
 refused(T, 13, 0, c1=1, c2=1)
 refused(T, 13, 0, c1=2, c2=1)
@@ -182,8 +207,20 @@ passes(T, c1=0, c2=BIG)
 CASES = [(d, "refused 5 line 40" if e == "passes 41 differs" else e) for d, e in CASES]
 
 
-def add_vectors(vectors, void):
-    """Adds the vectors of a folder, but for those that are void: a test of output, c1 and c2."""
+def shared(lines):
+    """The first line of a loop whose iterator is that of a loop around it, each loop from its line to its end."""
+    ends, opened = {}, []
+    for i, (kind, _, _, _) in enumerate(lines):
+        if kind == 38:
+            opened.append(i)
+        if kind == 39:
+            ends[opened.pop()] = i
+    inner = [r for o in ends for r in ends if o < r < ends[o] and lines[o][1] == lines[r][1]]
+    return min(inner, default=None)
+
+
+def add_vectors(vectors, void, before_16=False):
+    """Adds the vectors of a folder, but for those that are void: a test of output, c1 and c2. They may be from before 16 was refused."""
     data = (vectors / "cases.bin").read_bytes()
     at = 0
     for line in (vectors / "index.txt").read_text().splitlines():
@@ -195,16 +232,20 @@ def add_vectors(vectors, void):
         c1, c2, limit = struct.unpack_from("<3I", bytes_) if n >= 12 else (0, 0, 0)
         if limit == BIG or void(output, c1, c2):
             continue
-        if not output.startswith("refused"):
-            if n > 2000:
-                continue
-            output = "passes %d" % (struct.unpack_from("<I", bytes_, 12 + 4 * 126)[0] if n > 12 else 0)
+        table_passes = not output.startswith("refused")
+        if table_passes and n > 2000:
+            continue
+        lines = rules.read(bytes_[12:])[1]
+        if table_passes:
+            output = "passes %d" % len(lines)
+        if before_16 and (table_passes or output == "refused 13 line 0") and shared(lines) is not None:
+            output = "refused 16 line %d" % shared(lines)
         CASES.append((bytes_, output))
 
 
 def main():
     first, last = map(pathlib.Path, sys.argv[1:])
-    add_vectors(first, lambda output, c1, c2: output == "refused 13 line 0" and c1 + 1 == c2)
+    add_vectors(first, lambda output, c1, c2: output == "refused 13 line 0" and c1 + 1 == c2, before_16=True)
     add_vectors(last, lambda output, c1, c2: False)
 
     # the rules of rules.py say the same of every case

@@ -1,5 +1,5 @@
 """The rules on files, tables and pairs, for make_cases.py and for test_run_cases/break_rules.py: sections 1 and 5 of docs/RULES.md and the
-refusals 1 to 13 of section 6, apart from the proved code.
+refusals 1 to 13 and 16 of section 6, apart from the proved code.
 
 A refusal is a number and a place; None is none. A table is lines of four words.
 """
@@ -212,8 +212,22 @@ class Checked:
 
         return self.first(breaks)
 
+    def check_16(self):
+        iterators = []  # of the open loops
 
-ORDER = (5, 6, 7, 8, 9, 10, 11, 12)
+        def breaks(i, line):
+            kind, a, _, _ = line
+            if kind == 39 and iterators:
+                iterators.pop()
+            if kind not in (38, 42):
+                return False
+            iterators.append(a)
+            return a in iterators[:-1]
+
+        return self.first(breaks)
+
+
+ORDER = (5, 6, 7, 8, 9, 10, 11, 12, 16)
 
 
 def check_table(words, reduced):

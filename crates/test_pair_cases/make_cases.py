@@ -106,6 +106,18 @@ def neighbours():
         yield struct.pack("<3I", c1, c2, 100) + write(T), ["refused 13 line 0"]
 
 
+def one_loop_at_a_time():
+    """An inner loop with the iterator of the loop around it is refused at its line; so is it with a pair that 13 refuses. A later loop is not."""
+    inner, end = (38, 0, 0, 0), (39, 0, 0, 0)
+    for declaration in U, MU:
+        for c1, c2 in (1, 3), (1, 1), (3, 1):
+            yield struct.pack("<3I", c1, c2, 9) + write([declaration, constant(0), inner, inner, end, end]), ["refused 16 line 3"]
+        yield struct.pack("<3I", 1, 3, 9) + write([declaration, constant(0), inner, inner, end, end, end]), ["refused 11 line 6"]
+    yield struct.pack("<3I", 1, 1, 9) + write([MU, constant(0), inner, inner, end, end, (33, 0, 0, 0)]), ["refused 12 line 6"]
+    beside = ["plain done row 4 steps 4", "pair done row 4 steps 4 choices 0"]
+    yield struct.pack("<3I", 1, 3, 9) + write([U, constant(0), inner, end, inner, end]), beside
+
+
 def main():
     vectors = pathlib.Path(sys.argv[1])
     data = (vectors / "cases.bin").read_bytes()
@@ -124,7 +136,7 @@ def main():
     assert expected == "".join(line.split(" ", 2)[2].replace(" | ", "\n") + "\n" for line in lines)
 
     more = 0
-    for given, ended in [*full_lists(), *cells_of_each(), *why_it_failed(), *neighbours()]:
+    for given, ended in [*full_lists(), *cells_of_each(), *why_it_failed(), *neighbours(), *one_loop_at_a_time()]:
         out = pairrun(given)
         assert out == ended, (out, ended)
         data += struct.pack("<I", len(given)) + given

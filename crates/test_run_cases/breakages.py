@@ -1553,18 +1553,17 @@ broken("6.21", "the plain machine takes 4,128 cells too", (SIZE_14, SIZE_14.repl
 broken("6.21", "the reduced machine takes 4,112 cells too", (SIZE_14, SIZE_14.replace(":\n", " and lent != 4112:\n")), stops=True)
 broken("6.21", "the reduced machine takes 4,096 cells too", (SIZE_14, SIZE_14.replace(":\n", " and lent != 4096:\n")), stops=True)
 broken("6.2", "14 comes before 13", (SIZE_14, SIZE_14.replace("checked is None", "(checked is None or checked[0] == 13)")))
-broken(
-    "6.2",
-    "14 comes before the table's checks",
-    (SIZE_14, SIZE_14.replace("checked is None", "(checked is None or checked[0] <= 12)")),
-)
-broken(
-    "6.2",
-    "13 comes before the table's checks",
-    (PAIR_13, PAIR_13.replace("checked is None", "(checked is None or checked[0] <= 12)")),
-)
+for test, what in ("not in (13, 14)", "the table's checks"), ("== 16", "16"):
+    early = "(checked is None or checked[0] %s)" % test
+    broken("6.2", "14 comes before %s" % what, (SIZE_14, SIZE_14.replace("checked is None", early)))
+    broken("6.2", "13 comes before %s" % what, (PAIR_13, PAIR_13.replace("checked is None", early)))
 EDITS = "        if k:\n            for field, slot, v in edits:\n"
-for number, what in ("checked[0] == 14", "14"), ("checked[0] == 13", "13"), ("checked[0] <= 12", "the table's checks"):
+for number, what in (
+    ("checked[0] == 14", "14"),
+    ("checked[0] == 13", "13"),
+    ("checked[0] == 16", "16"),
+    ("checked[0] not in (13, 14)", "the table's checks"),
+):
     fifteen = (
         "        if checked and %s and any(e[0] == ROW and e[2] > len(table.rows) for e in edits):\n            checked = (15, 0)\n"
         % number
@@ -1786,24 +1785,26 @@ broken(
     ("            return (number, place)\n    return None\n", "            return (number, place)\n    return (4, 0) if left else None\n"),
     file=RULES,
 )
-ORDER = "ORDER = (5, 6, 7, 8, 9, 10, 11, 12)\n"
-for n in range(5, 12):
+NUMBERS = (5, 6, 7, 8, 9, 10, 11, 12, 16)
+ORDER = "ORDER = %s\n" % (NUMBERS,)
+for before, n in zip(NUMBERS, NUMBERS[1:]):
     broken(
         "6.2",
-        "%d comes before %d" % (n + 1, n),
-        (ORDER, ORDER.replace("%d, %d" % (n, n + 1), "%d, %d" % (n + 1, n))),
+        "%d comes before %d" % (n, before),
+        (ORDER, ORDER.replace("%d, %d" % (before, n), "%d, %d" % (n, before))),
         file=RULES,
-        refused={n, n + 1},
-        stops=n == 5,
+        refused={before, n},
+        stops=n == 6,
     )
     broken(
         "6.2",
-        "%d comes first" % (n + 1),
-        (ORDER, ORDER.replace(", %d" % (n + 1), "").replace("(5", "(%d, 5" % (n + 1))),
+        "%d comes first" % n,
+        (ORDER, ORDER.replace(", %d" % n, "").replace("(5", "(%d, 5" % n)),
         file=RULES,
-        refused=set(range(5, n + 2)),
+        refused=set(NUMBERS[: NUMBERS.index(n) + 1]),
         stops=True,
     )
+broken("6.2", "16 comes before 11", (ORDER, ORDER.replace("11, 12, 16", "16, 11, 12")), file=RULES, refused={11, 12, 16})
 broken(
     "6.3",
     "lines are tested one by one, each by all checks",
@@ -1820,7 +1821,7 @@ broken(
         ),
     ),
     file=RULES,
-    refused=set(range(5, 13)),
+    refused=set(NUMBERS),
 )
 broken(
     "6.2",
@@ -1835,7 +1836,7 @@ broken(
     ),
     file=RULES,
 )
-for n in range(5, 13):
+for n in NUMBERS:
     of = {"file": RULES, "refused": {n}}
     sort_place = (
         "            place -= sum(sort(line[0]) < sort(table.lines[place][0]) for line in table.lines) if number == %d else 0\n"
@@ -1845,7 +1846,7 @@ for n in range(5, 13):
     broken("6.3", "the place is counted from 1", (FOUND, FOUND.replace("place)", "place + (number == %d))" % n)), **of)
 FIRST_LINE = "        return next((i for i, line in enumerate(self.lines) if breaks(i, line)), None)\n"
 LAST_LINE = "        found = [i for i, line in enumerate(self.lines) if breaks(i, line)]\n        return found[-1] if found else None\n"
-for n in range(5, 13):
+for n in NUMBERS:
     if n != 11:
         last = (
             "    def last(self, breaks):\n"
@@ -2238,6 +2239,59 @@ broken(
     file=RULES,
     refused={12},
 )
+ADDED_16 = "            iterators.append(a)\n"
+IN_16 = "            return a in iterators[:-1]\n"
+CLOSED_16 = "            if kind == 39 and iterators:\n                iterators.pop()\n"
+OPENS_16 = "            if kind not in (38, 42):\n                return False\n"
+broken("6.23", "16 is not tested", (IN_16, "            return False\n"), file=RULES, refused={16})
+broken("6.23", "only the innermost loop is looked at", (IN_16, "            return a in iterators[-2:-1]\n"), file=RULES, refused={16})
+broken("6.23", "only the outermost loop is looked at", (IN_16, "            return a in iterators[:-1][:1]\n"), file=RULES, refused={16})
+broken("6.23", "the innermost loop is not looked at", (IN_16, "            return a in iterators[:-2]\n"), file=RULES, refused={16})
+broken("6.23", "the outermost of eight loops is not looked at", (IN_16, "            return a in iterators[:-1][-6:]\n"), file=RULES, refused={16})
+broken("6.23", "a later loop with the iterator is refused", (CLOSED_16, ""), file=RULES)
+broken("6.23", "a 39 closes the outermost loop", (CLOSED_16, CLOSED_16.replace("pop()", "pop(0)")), file=RULES)
+broken("6.23", "a 39 closes all loops", (CLOSED_16, CLOSED_16.replace("pop()", "clear()")), file=RULES, refused={16})
+for kind, other in (38, 42), (42, 38):
+    of = {"file": RULES, "refused": {16}}
+    broken("6.23", "%d opens no loop" % kind, (OPENS_16, OPENS_16.replace("not in (38, 42)", "!= %d" % other)), **of)
+    broken("6.23", "%d is not refused" % kind, (IN_16, IN_16.replace("\n", " and kind != %d\n" % kind)), **of)
+broken("6.23", "33 to the iterator of an open loop is refused", (OPENS_16, "            if kind == 33:\n                return a in iterators\n" + OPENS_16), file=RULES)
+broken("6.23", "a plain table is not tested", (IN_16, IN_16.replace("\n", " and self.reduced\n")), file=RULES, refused={16})
+broken("6.23", "a reduced table is not tested", (IN_16, IN_16.replace("\n", " and not self.reduced\n")), file=RULES, refused={16})
+broken("6.23", "marked iterators may be shared", (IN_16, IN_16.replace("\n", " and self.declarations[a][1] == 0\n")), file=RULES, refused={16})
+broken("6.23", "iterators that are not marked may be shared", (IN_16, IN_16.replace("\n", " and self.declarations[a][1] == 1\n")), file=RULES, refused={16})
+broken("6.23", "any loop in a loop is refused", (IN_16, "            return len(iterators) > 1\n"), file=RULES)
+broken(
+    "6.23",
+    "the place is the outer loop's",
+    ("        iterators = []  # of the open loops\n", "        iterators, at = [], []  # of the open loops\n"),
+    (CLOSED_16, CLOSED_16 + "                at.pop()\n"),
+    (ADDED_16, ADDED_16 + "            at.append(i)\n"),
+    (
+        IN_16 + "\n        return self.first(breaks)\n",
+        "            return a in iterators[:-1]\n\n        inner = self.first(breaks)\n"
+        "        return inner if inner is None else at[iterators.index(iterators[-1])]\n",
+    ),
+    file=RULES,
+    refused={16},
+)
+broken(
+    "6.23",
+    "a row that no run reaches is not tested",
+    (IN_16, IN_16.replace("\n", " and (35, 1, 0, 0) not in self.lines[:i]\n")),
+    file=RULES,
+    refused={16},
+)
+broken(
+    "6.2",
+    "13 comes before 16",
+    (
+        "    if refusal is None:\n        refusal = check_pair(c1, c2)\n    return refusal, lines\n",
+        "    if refusal is None or refusal[0] == 16:\n        refusal = check_pair(c1, c2) or refusal\n    return refusal, lines\n",
+    ),
+    file=RULES,
+    refused={16},
+)
 BELOW = "    if not c1 < c2:\n"
 broken("3.1", "c1 = c2 passes", (BELOW, "    if not c1 <= c2:\n"), file=RULES)
 broken("3.1", "c1 = c2 + 1 passes", (BELOW, "    if not c1 < c2 and c1 != c2 + 1:\n"), file=RULES)
@@ -2315,21 +2369,21 @@ FITTING = "512 * -(-len(words) // 124)"
 lent("6.21", "the writer takes the bytes of the file", (WRITE_14, WRITE_14.replace(":\n", " and len(lent) != %s:\n" % FITTING, 1)))
 lent("6.19", "the writer wants as many bytes as the file has", (WRITE_14, WRITE_14.replace("WRITTEN_BYTES", FITTING)))
 lent("6.3", "14 of the writer tells the size as its place", (WRITE_14, WRITE_14.replace("(14, 0)", "(14, len(lent))")))
-for test, what in [("<= 12", "4 to 12")] + [("== %d" % n, str(n)) for n in range(4, 13)]:
+for test, what in [("< 14 or refusal[0] == 16", "the table's checks")] + [("== %d" % n, str(n)) for n in (4, *NUMBERS)]:
     early = WRITE_14.replace("refusal is None", "(refusal is None or refusal[0] %s)" % test)
     lent("6.2", "14 of the writer comes before %s" % what, (WRITE_14, early))
 WRITE_CHECK = "def write_file(words, lent):\n    refusal = rules.check_table(words, False)\n"
 lent("6.21", "the writer checks by the rules of reduced tables", (WRITE_CHECK, WRITE_CHECK.replace("False", "True")), stops=True)
 lent("6.21", "the writer checks no table", (WRITE_CHECK, WRITE_CHECK.replace("rules.check_table(words, False)", "None")), stops=True)
-for number in range(4, 13):
+for number in (4, *NUMBERS):
     passed = "    if refusal is not None and refusal[0] == %d:\n        refusal = None\n" % number
     lent("5.10", "the writer takes a table that %d refuses" % number, (WRITE_CHECK, WRITE_CHECK + passed), stops=True)
 WRITES = "    data = rules.write(lines_of(words))\n"
 WRITE_GIVEN_UP = GIVEN_UP + WRITES
-for test, what in ("True", "a refused writer"), ("refusal[0] == 14", "14 of the writer"), ("refusal[0] < 14", "4 to 12 of the writer"):
+for test, what in ("True", "a refused writer"), ("refusal[0] == 14", "14 of the writer"), ("refusal[0] != 14", "a table's check in the writer"):
     zeroed = "    if refusal is not None and %s:\n        lent[:] = [0] * len(lent)\n" % test
     lent("6.4", "%s zeroes the bytes" % what, (WRITE_GIVEN_UP, zeroed + WRITE_GIVEN_UP))
-for number in (*range(4, 13), 14):
+for number in (4, *NUMBERS, 14):
     zeroed = "    if refusal is not None and refusal[0] == %d and lent:\n        lent[0] = 0\n" % number
     lent("6.4", "%d of the writer zeroes the first byte" % number, (WRITE_GIVEN_UP, zeroed + WRITE_GIVEN_UP))
     last = zeroed.replace("lent[0]", "lent[-1]")
@@ -2353,12 +2407,14 @@ lent("6.21", "the reduction wants 5,248 words", (REDUCE_14, REDUCE_14.replace("l
 LINES_14 = REDUCE_14.replace("len(lent) != len(words)", "len(lent) // 4 != len(words) // 4")
 lent("6.21", "the reduction compares numbers of lines", (REDUCE_14, LINES_14))
 lent("6.3", "14 of the reduction tells the size as its place", (REDUCE_14, REDUCE_14.replace("(14, 0)", "(14, len(lent))")))
-for test, what in [("== 13", "13"), ("<= 12", "4 to 12")] + [("== %d" % n, str(n)) for n in range(4, 13)]:
+for test, what in [("== 13", "13"), ("not in (13, 14)", "the table's checks")] + [("== %d" % n, str(n)) for n in (4, *NUMBERS)]:
     early = REDUCE_14.replace("refusal is None", "(refusal is None or refusal[0] %s)" % test)
     lent("6.2", "14 of the reduction comes before %s" % what, (REDUCE_14, early))
 REDUCE_13 = "    if refusal is None:\n        refusal = rules.check_pair(c1, c2)\n"
 lent("6.21", "the reduction takes any pair", (REDUCE_13, ""))
-lent("6.2", "13 of the reduction comes before 4 to 12", (REDUCE_13, "    refusal = rules.check_pair(c1, c2) or refusal\n"))
+lent("6.2", "13 of the reduction comes before the table's checks", (REDUCE_13, "    refusal = rules.check_pair(c1, c2) or refusal\n"))
+EARLY_13 = REDUCE_13.replace("refusal is None", "refusal is None or refusal[0] == 16").replace("c2)", "c2) or refusal")
+lent("6.2", "13 of the reduction comes before 16", (REDUCE_13, EARLY_13))
 REDUCE_CHECK = "def reduce_table(words, c1, c2, lent):\n    refusal = rules.check_table(words, False)\n"
 lent("6.21", "the reduction checks by the rules of reduced tables", (REDUCE_CHECK, REDUCE_CHECK.replace("False", "True")), stops=True)
 lent("6.21", "the reduction checks no table", (REDUCE_CHECK, REDUCE_CHECK.replace("rules.check_table(words, False)", "None")), stops=True)
@@ -2367,13 +2423,13 @@ for test, what in (
     ("True", "a refused reduction"),
     ("refusal[0] == 14", "14 of the reduction"),
     ("refusal[0] == 13", "13 of the reduction"),
-    ("refusal[0] < 13", "4 to 12 of the reduction"),
+    ("refusal[0] not in (13, 14)", "a table's check in the reduction"),
 ):
     zeroed = "    if refusal is not None and %s:\n        lent[:] = [0] * len(lent)\n" % test
     lent("6.4", "%s zeroes the lent table" % what, (REDUCE_GIVEN_UP, zeroed + REDUCE_GIVEN_UP))
     copied = "    if refusal is not None and %s:\n        lent[:] = (words + lent)[: len(lent)]\n" % test
     lent("6.4", "%s leaves the plain table" % what, (REDUCE_GIVEN_UP, copied + REDUCE_GIVEN_UP))
-for number in range(4, 15):
+for number in (4, *NUMBERS, 13, 14):
     zeroed = "    if refusal is not None and refusal[0] == %d and lent:\n        lent[0] = 0\n" % number
     lent("6.4", "%d of the reduction zeroes the first word" % number, (REDUCE_GIVEN_UP, zeroed + REDUCE_GIVEN_UP))
     last = zeroed.replace("lent[0]", "lent[-1]")

@@ -30,7 +30,7 @@ ROW, OPEN, LOOP_ROW, START, END, NUMBER, BASE, COUNT, FIRST, LENGTH, SHAPE, CELL
 
 
 class Table:
-    """Lines by sort; the end row of each loop row."""
+    """Lines by sort; the end row of each loop row; whether a loop has the iterator of a loop around it."""
 
     def __init__(self, lines):
         self.lines = lines
@@ -44,6 +44,7 @@ class Table:
                 opened.append(r)
             elif line[0] == 39 and opened:
                 self.ends[opened.pop()] = r
+        self.shares = any(self.rows[o][1] == self.rows[r][1] and o < r < e for o, e in self.ends.items() for r in self.ends)
 
     def marked(self, v, sort):
         return self.declarations[v][:2] == (sort, 1)
@@ -380,6 +381,7 @@ def lines_of(machine, table, pair, lent, choices, runs, refusal, reached=None):
 def case(machine, lines, runs, pair=(1, 3), choices=(), lent=None, refusal=None, words=None, expect=None):
     """Adds a case: lines of the machine's own table. A run is a limit, or a limit and edits. What the rules say of it may be given."""
     table = Table(lines)
+    assert refusal is not None or not table.shares, lines
     runs = [run if isinstance(run, tuple) else (run, []) for run in runs]
     lent = CELLS[machine] if lent is None else lent
     words = [w for line in lines for w in line] if words is None else words
@@ -555,20 +557,73 @@ def loops():
                 reduced(lines, 40, 40, pair=pair, choices=written(lines, pair, 80))
             plain(lines, 40, 40)
         # loops in loops, some not entered, with the skip over them
-        nested = [declaration, U, *ends, *loop(0, 0, 1, *loop(1, 1, 2, *loop(0, 2, 2, SKIP)), *loop(1, 2, 1, *loop(0, 0, 0, SKIP)))]
-        both(nested, 7, 1000)
-        both([declaration, U, *ends, *loop(0, 1, 0, *nested[8:]), SKIP], 100)
-        both([declaration, U, *ends, *loop(1, 0, 1, *loop(0, 1, 0, *loop(1, 0, 0), *loop(1, 0, 0)), SKIP)], 100)
+        nested = loop(0, 0, 1, *loop(1, 1, 2, *loop(2, 2, 2, SKIP)), *loop(1, 2, 1, *loop(2, 0, 0, SKIP)))
+        both([declaration, U, declaration, *ends, *nested], 7, 1000)
+        both([declaration, U, declaration, declaration, *ends, *loop(3, 1, 0, *nested), SKIP], 100)
+        both([declaration, U, U, *ends, *loop(1, 0, 1, *loop(0, 1, 0, *loop(2, 0, 0), *loop(2, 0, 0)), SKIP)], 100)
         # eight deep, entered and not
         for last in 1, 0:
             deep = [SKIP]
-            for _ in range(7):
-                deep = loop(0, 0, 1, *deep)
-            both([declaration, *ends, *loop(0, 0, last, *deep)], 900, 10000)
+            for v in range(1, 8):
+                deep = loop(v, 0, 1, *deep)
+            both([declaration] * 8 + [*ends, *loop(0, 0, last, *deep)], 900, 10000)
     # the body sets the iterator: the kept start counts
     both([U, *ends, *loop(0, 0, 2, (33, 0, 3, 0)), SKIP], 3, 100)
     # the bounds are worked out once, on entry
     both([U, U, *ends, variable(1), (20, 6, 1, 0), (33, 1, 2, 0), *loop(0, 0, 6, (33, 1, 7, 0))], 100)
+
+
+def siblings():
+    """An iterator serves one loop after another, beside it or inside a third, and the body of its loop may set it, where it is not marked."""
+    ends = [constant(n) for n in (0, 1, 2)]
+    for declaration in U, MU:
+        both([declaration, *ends, *loop(0, 0, 2), *loop(0, 1, 2, SKIP), *loop(0, 2, 2)], 5, 100)
+        both([declaration, U, *ends, *loop(1, 0, 1, *loop(0, 0, 1), *loop(0, 1, 2, SKIP)), *loop(0, 0, 0)], 5, 100)
+        both([declaration, U, *ends, *loop(0, 0, 1, *loop(1, 0, 1)), *loop(1, 0, 1, *loop(0, 0, 1))], 5, 100)
+        both([declaration, U, U, *ends, *loop(2, 0, 1, *loop(0, 0, 0, *loop(1, 0, 0)), *loop(1, 0, 1, *loop(0, 1, 2)))], 5, 100)
+    both([U, U, *ends, *loop(0, 0, 2, (33, 0, 2, 0), *loop(1, 0, 1, (33, 0, 1, 0), (33, 1, 2, 0)))], 5, 100)
+
+
+def shared_iterators():
+    """16: a loop whose iterator is that of a loop around it, in tables that pass otherwise; the line is the inner loop's, the first such."""
+    for machine, declaration, opens in (PLAIN, U, 38), (PLAIN, MU, 38), (REDUCED, U, 38), (REDUCED, MU, 42):
+        declared = [declaration] * 8
+
+        def opened(v):
+            return (opens, v, 0, 0)
+
+        for place, rows in (
+            (1, [opened(0), opened(0), CLOSE, CLOSE]),
+            # the outermost of three, of eight, and one between
+            (2, [opened(0), opened(1), opened(0), CLOSE, CLOSE, CLOSE]),
+            (2, [opened(1), opened(0), opened(0), CLOSE, CLOSE, CLOSE]),
+            (7, [opened(v) for v in (0, 1, 2, 3, 4, 5, 6, 0)] + [CLOSE] * 8),
+            (7, [opened(v) for v in (0, 1, 2, 3, 4, 5, 6, 3)] + [CLOSE] * 8),
+            # past loops that are closed, and past other rows
+            (3, [opened(0), opened(1), CLOSE, opened(0), CLOSE, CLOSE]),
+            (5, [opened(0), CLOSE, opened(1), opened(2), CLOSE, opened(1), CLOSE, CLOSE]),
+            (4, [SKIP, opened(0), SKIP, SKIP, opened(0), SKIP, CLOSE, SKIP, CLOSE]),
+            # the first of two
+            (2, [opened(0), opened(1), opened(1), CLOSE, CLOSE, opened(0), CLOSE, CLOSE]),
+            (1, [opened(7), opened(7), opened(7), CLOSE, CLOSE, CLOSE]),
+            # a row that no run reaches
+            (3, [(35, 1, 0, 0), (opens, 0, 2, 0), opened(1), opened(0), CLOSE, CLOSE, CLOSE]),
+        ):
+            lines = declared + [constant(0), (18, 0, 0, 0), constant(1)]
+            for pair, lent in ((1, 3), CELLS[machine]), ((3, 1), CELLS[machine]), ((1, 3), 9):
+                case(machine, lines + rows, [100, (10, [(ROW, 0, 99)])], pair=pair, lent=lent, refusal=(16, len(lines) + place))
+        # 11 and 12 come before it, wherever their lines are
+        inner = [opened(0), opened(0), CLOSE, CLOSE]
+        case(machine, declared + [constant(0), *inner, CLOSE], [100], refusal=(11, 13))
+        case(machine, declared + [constant(0), *inner, opened(1)], [100], refusal=(11, 13))
+        case(machine, declared + [MU, constant(0), *inner, (33, 8, 0, 0)], [100], refusal=(12, 14))
+        case(machine, declared + [MU, constant(0), (33, 8, 0, 0), *inner], [100], refusal=(12, 10))
+        case(machine, [U] + declared + [(18, 0, 0, 0), constant(0), (33, 0, 0, 0)] + inner, [100], refusal=(9, 11))
+    # a marked and an unmarked loop never have one iterator; 38 and 42 of a reduced table are alike
+    mixed = [U, MU, constant(0), (38, 0, 0, 0), (42, 1, 0, 0), (38, 0, 0, 0), CLOSE, CLOSE, CLOSE]
+    case(REDUCED, mixed, [100], refusal=(16, 5))
+    case(REDUCED, [MU, U, constant(0), (42, 0, 0, 0), (38, 1, 0, 0), (42, 0, 0, 0), CLOSE, CLOSE, CLOSE], [100], refusal=(16, 5))
+    case(REDUCED, [MU, constant(0), (42, 0, 0, 0), (38, 0, 0, 0), CLOSE, CLOSE], [100], refusal=(12, 3))
 
 
 def branches():
@@ -1072,7 +1127,7 @@ class Shuffled:
         for v, (kind, _, _, _) in enumerate(self.declarations):
             if kind == POINTER and pick.random() < 0.9:
                 self.rows.append((37, v, self.leaf(), 0))
-        self.block(pick.randint(4, 14), 0)
+        self.block(pick.randint(4, 14), [])
         self.lines = self.declarations + self.nodes + self.rows
 
     def add(self, kind, node, *operands):
@@ -1110,7 +1165,12 @@ class Shuffled:
     def variable(self, *declared):
         return self.pick.choice([v for v, d in enumerate(self.declarations) if d in declared])
 
-    def block(self, n, depth):
+    def free(self, around):
+        """The uints that are no iterator of a loop around."""
+        return [v for v, (kind, _, _, _) in enumerate(self.declarations) if kind == UINT and v not in around]
+
+    def block(self, n, around):
+        """Rows, in loops with these iterators."""
         for _ in range(n):
             kind = self.pick.choice([32, 33, 33, 33, 34, 34, 35, 36, 37, 38, 38, 38])
             if kind == 33:
@@ -1122,10 +1182,11 @@ class Shuffled:
                 self.rows.append((kind, self.node(BOOL), 0, 0))
             elif kind == 37 and self.pick.random() < 0.4:
                 self.rows.append((37, self.variable(P, MP), self.node(UINT), 0))
-            elif kind == 38 and depth < 3:
+            elif kind == 38 and len(around) < 3 and (free := self.free(around)):
                 end = self.leaf() if self.pick.random() < 0.8 else self.node(UINT)
-                self.rows.append((38, self.variable(U, MU), self.leaf(), end))
-                self.block(self.pick.randint(1, 4), depth + 1)
+                iterator = self.pick.choice(free)
+                self.rows.append((38, iterator, self.leaf(), end))
+                self.block(self.pick.randint(1, 4), [*around, iterator])
                 self.rows.append(CLOSE)
             else:
                 self.rows.append(SKIP)
@@ -1173,6 +1234,8 @@ def main():
     wants_of_cells()
     sums()
     loops()
+    siblings()
+    shared_iterators()
     branches()
     pointers()
     kinds_of_arrays()

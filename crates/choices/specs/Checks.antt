@@ -7,6 +7,6 @@ use Rattle.model.specs.State.{cellCount}
 use Rattle.model.specs.State.MachineKind.{plain}
 use Rattle.reduction.specs.Reduction.{placesCheck}
 
--- 4 to 12 by the plain rules, 13, 14 (rule 6.21). A list may be of any length
+-- the table's checks by the plain rules, 13, 14 (rule 6.21). A list may be of any length
 unfoldable pub writerChecks : List ℕ → List ℕ → ℕ → Verdict
 writerChecks ps t cells = andThen (tableCheck plain t) (andThen (placesCheck ps) (sizeCheck cells (cellCount plain)))

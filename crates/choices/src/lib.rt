@@ -21,7 +21,7 @@ ghost use Rattle.runs.specs.Checks.{frameOf};
 ghost use Rattle.choices.specs.Checks.{writerChecks};
 ghost use Rattle.choices.specs.Answers.{saidOf, writerSaid};
 
-// 4 to 12, 13 and 14, in that order.
+// The table's checks, 13 and 14, in that order.
 fn check_writer(t: &[u32], cells: &[u32], c1: u32, c2: u32) -> Verdict
     ensures { λ r. ⌜ r ≡ writerChecks (pair c1 c2) (now (t .entry)) (length (now (cells .entry))) ⌝ }
 {

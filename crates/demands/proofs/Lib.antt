@@ -5,5 +5,6 @@ pub mod Demand1Proof
 pub mod Demand2Proof
 pub mod ReasonsProof
 pub mod NeighboursProof
+pub mod IteratorsProof
 pub mod Demand3Proof
 pub mod ExampleProof

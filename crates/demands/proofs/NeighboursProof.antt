@@ -25,7 +25,7 @@ use Rattle.demands.specs.Neighbours.{Starts, NoStateHoldsEmpty, EmptyRef
 use Rattle.demands.proofs.RefusalLaws.{pair-checked}
 
 -- a run starts from a state that its table can have
-start-can : (m : MachineKind) (ps : List ℕ) (t : Table) (s : State) → Starts m ps t s → CanBe m ps t s
+pub start-can : (m : MachineKind) (ps : List ℕ) (t : Table) (s : State) → Starts m ps t s → CanBe m ps t s
 start-can m ps t s (inl e) = rw e (record { can = fresh-can ps m t; regular = fresh-regular ps m t })
 start-can m ps t s (inr e) = fits-can m ps t s e
 

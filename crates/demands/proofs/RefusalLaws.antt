@@ -64,7 +64,7 @@ checked-more x ns n Passes h = tt
 checked-more x ns n (Refused k p) h = inr h
 
 -- ---- each check by itself
--- 5 to 12, by the order in which they stand in a list
+-- those of lines, by the order in which they stand in a list
 lines-checked : (f : ℕ → Found) (n : ℕ) → ((k i : ℕ) → f k ≡ At i → i < n) → (ks : List ℕ) → Checked (map (counted atLine) ks) n (firstRefusal f ks)
 unfolding firstRefusal
 lines-checked f n within [] = tt

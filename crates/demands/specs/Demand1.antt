@@ -1,6 +1,6 @@
 -- "The answer to any file, table, pair, record or choice list is a result or one of the fifteen numbers in document 01, at the place named
 -- there; a refusal writes to none of the buffers it was lent, and each run stops by its step limit."
--- (rules 10.1, 10.2.) Proved in proofs/Demand1Proof.
+-- (rules 10.1, 10.2.) The numbers have grown since, by 16. Proved in proofs/Demand1Proof.
 use mathlib.Core.Path.{_≡_}
 use Prim.Native.Nat.{ℕ, _/_, _≤_}
 use mathlib.Core.List.{List, [], _++_}
@@ -26,7 +26,7 @@ use Rattle.choices.specs.Answers.Said.{refusal as notWriting, writes}
 use Rattle.pair.specs.Pairs.{LineSaid, PairSaid, pairSaid}
 use Rattle.pair.specs.Pairs.LineSaid.{line, noLine}
 use Rattle.pair.specs.Pairs.PairSaid.{refusal as notRunning, lines}
-use Rattle.demands.specs.Refusals.{Number, fileNumbers, tableNumbers, pairNumbers, bufferNumbers, recordNumbers, FifteenNumbers, OneOf}
+use Rattle.demands.specs.Refusals.{Number, fileNumbers, tableNumbers, pairNumbers, bufferNumbers, recordNumbers, TheNumbers, OneOf}
 
 -- the lines of a table of words
 abbrev pub linesOf : List ℕ → ℕ
@@ -73,7 +73,7 @@ PairRight file limit (lines first second) = LineRight limit first × LineRight l
 
 -- ---- of every public function
 pub record Demand1 : Type 0 where
-  pub numbers : FifteenNumbers
+  pub numbers : TheNumbers
   -- `read_file`, `write_file`
   pub reads : (bytes words : List ℕ) → ReadRight bytes words (readBuffer bytes words) (readAnswer bytes (length words))
   pub writesFile : (table bytes : List ℕ) → WriteRight table bytes (writeBuffer table bytes) (writeAnswer table (length bytes))

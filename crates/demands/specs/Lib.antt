@@ -5,5 +5,6 @@ pub mod Demand1
 pub mod Demand2
 pub mod Reasons
 pub mod Neighbours
+pub mod Iterators
 pub mod Demand3
 pub mod Examples

@@ -12,7 +12,7 @@ use Rattle.file.specs.declared.Written.{Written}
 use Rattle.file.specs.declared.Written.the-variants.{Bytes, Refused as NotWritten}
 use Rattle.file.specs.Layout.{fileBytes}
 
--- 4 to 12, then 14 (rule 6.21)
+-- the table's checks, then 14 (rule 6.21)
 unfoldable pub writeCheck : List ℕ → ℕ → Verdict
 writeCheck w size = andThen (tableCheck plain w) (sizeCheck size 22016)
 

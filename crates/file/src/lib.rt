@@ -72,7 +72,7 @@ fn write_passing(words: &[u32], out: &mut [u8]) -> Written
     Written::Bytes(write_blocks(words, out))
 }
 
-// Writes the file of a table into the bytes lent; 4 to 12, then 14, and a refusal leaves them as they were.
+// Writes the file of a table into the bytes lent; the table's checks, then 14, and a refusal leaves them as they were.
 pub fn write_file(words: &[u32], out: &mut [u8]) -> Written
     ensures answer { λ r. ⌜ r ≡ writeAnswer (now (words .entry)) (length (now (out .entry))) ⌝ }
     ensures buffer { λ r. ⌜ now (out .exit) ≡ writeBuffer (now (words .entry)) (now (out .entry)) ⌝ }

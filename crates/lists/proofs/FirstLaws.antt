@@ -45,6 +45,18 @@ first-below (suc n) f i k e = go (f i) e (first-below n f (suc i) k)
     go true w later = let same : i ≡ k = cc in omega arith
     go false w later = omega (arith, later w)
 
+-- ... and the first at which the test holds
+pub first-found : (n : ℕ) (f : ℕ → Bool) (i k : ℕ) → first f i n ≡ At k → (f k ≡ true) × ((j : ℕ) → i ≤ j → j < k → f j ≡ false)
+unfolding walk
+first-found zero f i k e = let no : _≡_ {A = ℕ} 0 1 = cc in absurd (not-suc-le-zero {n = 0} (omega arith))
+first-found (suc n) f i k e = go (f i) refl e (first-found n f (suc i) k)
+  where
+    go : (b : Bool) → f i ≡ b → found b i (first f (suc i) n) ≡ At k
+        → (first f (suc i) n ≡ At k → (f k ≡ true) × ((j : ℕ) → suc i ≤ j → j < k → f j ≡ false))
+        → (f k ≡ true) × ((j : ℕ) → i ≤ j → j < k → f j ≡ false)
+    go true q w later = let same : i ≡ k = cc in (rw same at q, λ j l m. absurd (omega arith))
+    go false q w later = let h = later w in (h .0, λ j l m. ⊎-elim (λ same. rw same at q) (λ less. h .1 j less m) (eq-or-lt-of-le l))
+
 -- where none was found the test holds nowhere
 pub first-nowhere-at : (n : ℕ) (f : ℕ → Bool) (i : ℕ) → first f i n ≡ Nothing → (j : ℕ) → i ≤ j → j < i + n → f j ≡ false
 unfolding walk

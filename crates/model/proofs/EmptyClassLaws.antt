@@ -99,6 +99,14 @@ module _ (ps : List ℕ) (m : MachineKind) (t : Table) where
           subst (HeldClass ps) (ap classNumber (sym (held .1) ∙ e)) (held .2)
       go false c l h = absurd (typed-no-class (length (s .arrays)) k (typeAt t i) (getD (s .vars) i (Uint 0)) h e)
 
+  -- a step leads to a state that the table can have, and so do n steps
+  pub after-can : Accepted m t → (n : ℕ) (s r : State) → CanHave ps m t s → (cs : List ℕ) → StateAfter ps t n s cs r → CanHave ps m t r
+  after-can A zero s r C cs e = subst (CanHave ps m t) e C
+  after-can A (suc n) s r C cs (f, made, left, e, rest) =
+      let h : Held m (MoveOk m (CanHave ps m t)) cs (gives (to made) left) =
+      subst (Held m (MoveOk m (CanHave ps m t)) cs) e (safe-step ps m t A s C (going t s f) .held cs) in
+      after-can A n made r (h .0) left rest
+
   after-none : Accepted m t → (n : ℕ) (s r : State) → CanHave ps m t s → Regular ps m t s → (cs : List ℕ) → Numbers cs → StateAfter ps t n s cs r
       → NoEmptyClass ps r
   after-none A zero s r C R cs g e = subst (NoEmptyClass ps) e (holds-none s C R)

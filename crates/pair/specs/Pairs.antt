@@ -65,7 +65,7 @@ linesSaid ps limit P =
     let list = writtenChoices ps limit P in
     lines (lineSaid [] (plainRun P limit)) (lineSaid list (reducedRun ps (reduce P) limit list))
 
--- the table's checks, 4 to 12, then the places', 13 (rules 6.2, 6.21). No other number can come out: the runs are lent buffers
+-- the table's checks, then the places', 13 (rules 6.2, 6.21). No other number can come out: the runs are lent buffers
 -- of the stated sizes, and the reduction passes
 unfoldable pub tableSaid : List ℕ → ℕ → List ℕ → PairSaid
 tableSaid ps limit P = saidBy (andThen (tableCheck plain P) (placesCheck ps)) (linesSaid ps limit P)

@@ -14,7 +14,7 @@ use Rattle.table.specs.Checks.{tableCheck, andThen, sizeCheck}
 abbrev pub placesCheck : List ℕ → Verdict
 placesCheck ps = if acceptedPlaces ps then Passes else Refused 13 0
 
--- 4 to 12, 13, and 14 where the lent table is not as long as the table (rule 6.21)
+-- the table's checks, 13, and 14 where the lent table is not as long as the table (rule 6.21)
 unfoldable pub reduceAnswer : List ℕ → List ℕ → ℕ → Verdict
 reduceAnswer w ps size = andThen (tableCheck plain w) (andThen (placesCheck ps) (sizeCheck size (length w)))
 

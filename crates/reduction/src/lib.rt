@@ -19,7 +19,7 @@ pub fn check_pair(c1: u32, c2: u32) -> Verdict
     Verdict::Refused(13, 0)
 }
 
-// The reduction of a plain table that passes, into a lent table as long as it; 4 to 12, 13 and 14 in that order, and a refusal leaves
+// The reduction of a plain table that passes, into a lent table as long as it; the table's checks, 13 and 14 in that order, and a refusal leaves
 // the lent table as it was.
 pub fn reduce_table(words: &[u32], c1: u32, c2: u32, lent: &mut [u32]) -> Verdict
     ensures answer { λ r. ⌜ r ≡ reduceAnswer (now (words .entry)) (pair c1 c2) (length (now (lent .entry))) ⌝ }

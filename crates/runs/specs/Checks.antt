@@ -16,7 +16,7 @@ abbrev pub placesFor : MachineKind → List ℕ → Verdict
 placesFor plain ps = Passes
 placesFor reduced ps = placesCheck ps
 
--- 4 to 12 by the rules of the machine, 13, 14 (rules 6.2, 6.21)
+-- the table's checks by the rules of the machine, 13, 14 (rules 6.2, 6.21)
 unfoldable pub runChecks : MachineKind → List ℕ → List ℕ → ℕ → Verdict
 runChecks m ps t cells = andThen (tableCheck m t) (andThen (placesFor m ps) (sizeCheck cells (cellCount m)))
 

@@ -58,7 +58,7 @@ pub fn check_size(size: usize, stated: usize) -> Verdict
     Verdict::Refused(14, 0)
 }
 
-// 4 to 12, 13 and 14, in that order.
+// The table's checks, 13 and 14, in that order.
 pub fn check_run(t: &[u32], cells: &[u32], classes: bool, c1: u32, c2: u32) -> Verdict
     ensures { λ r. ⌜ r ≡ runChecks (machineOf classes) (placesIn (machineOf classes) (pair c1 c2)) (now (t .entry)) (length (now (cells .entry))) ⌝ }
 {

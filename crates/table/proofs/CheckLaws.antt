@@ -12,14 +12,16 @@ use Rattle.lists.specs.declared.Found.the-variants.{At, Nothing}
 use Rattle.lists.specs.First.{first}
 use Rattle.lists.proofs.FirstLaws.{first-nowhere-at}
 use Rattle.model.specs.Table.{Table, tableOf}
-use Rattle.model.specs.Accepted.{nodeThere, rowThere}
+use Rattle.model.specs.State.{MachineKind}
+use Rattle.model.specs.Accepted.{nodeThere, rowThere, misnested}
 use Rattle.table.specs.declared.Verdict.the-variants.{Passes, Refused}
 use Rattle.table.specs.declared.Counts.{Counts}
-use Rattle.table.specs.Rules.{breaks8, breaks10, breaks11}
+use Rattle.table.specs.Rules.{breaks8, breaks10, breaks11, breaks16}
 use Rattle.table.specs.Checks.{machineOf, breaks, firstRefusal, tableCheck}
-use Rattle.table.specs.Code.{countsOf, tableBy, firstOf, InSorts, There}
+use Rattle.table.specs.Code.{countsOf, tableBy, firstOf, InSorts, There, WellNested}
 use Rattle.table.proofs.Sizes.{all-lines, declaration-at, node-at, row-at, sizes}
 use Rattle.table.proofs.CodeLaws.{at-node, at-row}
+use Rattle.table.proofs.LoopLaws.{no-row}
 
 module _ (f : ℕ → Found) where
   pub none : firstRefusal f [] ≡ Passes
@@ -56,7 +58,7 @@ module _ (f : ℕ → Found) where
       go (At j) q more = stop x (xs ++ ys) j q ∙ sym (stop x xs j q) ∙ e
       go Nothing q more = pass x (xs ++ ys) q ∙ more (sym (pass x xs q) ∙ e)
 
--- 11 is the same of plain and reduced tables
+-- 10, 11 and 16 are the same of plain and reduced tables
 pub ten : (r : Bool) (w : List ℕ) (c : Counts) → firstOf 10 r w c ≡ first (breaks10 (tableBy w c)) 0 (length w / 4)
 unfolding breaks
 ten r w c = refl
@@ -65,28 +67,33 @@ pub eleven : (r : Bool) (w : List ℕ) (c : Counts) → firstOf 11 r w c ≡ fir
 unfolding breaks
 eleven r w c = refl
 
+pub sixteen : (r : Bool) (w : List ℕ) (c : Counts) → firstOf 16 r w c ≡ first (breaks16 (tableBy w c)) 0 (length w / 4)
+unfolding breaks
+sixteen r w c = refl
+
 -- ---- what 4, 5 and 6 leave
 
-laid : (r : Bool) (w : List ℕ) → length w % 4 ≡ 0 → firstOf 5 r w (countsOf w) ≡ Nothing → firstOf 6 r w (countsOf w) ≡ Nothing
-    → InSorts (tableBy w (countsOf w))
+pub laid : (m : MachineKind) (w : List ℕ) → length w % 4 ≡ 0 → first (breaks 5 m (tableOf w)) 0 (length w / 4) ≡ Nothing
+    → first (breaks 6 m (tableOf w)) 0 (length w / 4) ≡ Nothing → InSorts (tableOf w)
 unfolding tableOf
-laid r w e n5 n6 =
-    let few = sizes (machineOf r) w e n5 n6 in
-    let whole : length w / 4 ≡ tableOf w .decls + tableOf w .nodes + tableOf w .rows = sym (all-lines (machineOf r) w n5) in
+laid m w e n5 n6 =
+    let few = sizes m w e n5 n6 in
+    let whole : length w / 4 ≡ tableOf w .decls + tableOf w .nodes + tableOf w .rows = sym (all-lines m w n5) in
     record {
       whole = omega (arith, whole);
       fewDecls = few .0;
       fewNodes = few .1;
       fewRows = few .2;
-      declaration = λ i l. declaration-at (machineOf r) w n5 i (omega (arith, whole)) l;
-      node = λ i l h. node-at (machineOf r) w n5 i (omega (arith, whole)) l h;
-      row = λ i l h. row-at (machineOf r) w n5 i (omega (arith, whole)) l;
+      declaration = λ i l. declaration-at m w n5 i (omega (arith, whole)) l;
+      node = λ i l h. node-at m w n5 i (omega (arith, whole)) l h;
+      row = λ i l h. row-at m w n5 i (omega (arith, whole)) l;
     }
 
 pub laid-of : (r : Bool) (w : List ℕ) (c : Counts) → length w % 4 ≡ 0 → c ≡ countsOf w → firstOf 5 r w c ≡ Nothing → firstOf 6 r w c ≡ Nothing
     → InSorts (tableBy w c)
+unfolding tableOf
 laid-of r w c e q =
-    subst (λ c. firstOf 5 r w c ≡ Nothing → firstOf 6 r w c ≡ Nothing → InSorts (tableBy w c)) (sym q) (laid r w e)
+    subst (λ c. firstOf 5 r w c ≡ Nothing → firstOf 6 r w c ≡ Nothing → InSorts (tableBy w c)) (sym q) (laid (machineOf r) w e)
 
 -- ---- what 8 leaves
 
@@ -117,13 +124,19 @@ there-of r w c la n8 = record {
     unbroken : (i : ℕ) → i < length w / 4 → breaks8 t i ≡ false
     unbroken i l = first-nowhere-at (length w / 4) (breaks 8 (machineOf r) t) 0 n8 i (omega arith) (omega arith)
 
+-- ---- what 11 leaves
+
+pub nested-of : (w : List ℕ) (c : Counts) → InSorts (tableBy w c) → first (breaks11 (tableBy w c)) 0 (length w / 4) ≡ Nothing → WellNested (tableBy w c)
+unfolding breaks11
+nested-of w c la e = let t = tableBy w c in record { rows = no-row (misnested t) t la e }
+
 -- ---- the whole check
 
 abbrev pub early : List ℕ
 early = 5 ∷ 6 ∷ 7 ∷ 8 ∷ []
 
 abbrev pub late : List ℕ
-late = 9 ∷ 10 ∷ 11 ∷ 12 ∷ []
+late = 9 ∷ 10 ∷ 11 ∷ 12 ∷ 16 ∷ []
 
 pub whole-check : (r : Bool) (w : List ℕ) (c : Counts) → length w % 4 ≡ 0 → c ≡ countsOf w
     → tableCheck (machineOf r) w ≡ firstRefusal (λ k. firstOf k r w c) (early ++ late)

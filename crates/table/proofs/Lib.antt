@@ -3,9 +3,11 @@ pub mod Sizes
 pub mod Passing
 pub mod ReducedPasses
 pub mod PromiseProofs
+pub mod IteratorProofs
 pub mod KindLaws
 pub mod CodeLaws
 pub mod TypeLaws
 pub mod DepthLaws
 pub mod LoopLaws
+pub mod IteratorLaws
 pub mod CheckLaws

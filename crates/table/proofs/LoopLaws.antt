@@ -1,9 +1,10 @@
--- The nesting of loops, with the open ones counted: the scan for an end, the count, and check 11.
+-- The nesting of loops, with the open ones counted: the scan for an end, the count, check 11; and a check of rows by a loop over them.
 -- Assumes nothing.
 use Prim.Native.Nat.{ℕ, zero, suc, _+_, _-_, _/_, _<_, _≤_}
 use native.Mathlib.Omega.{arith}
 use native.Mathlib.Nat.{sub-zero}
 use native.Mathlib.Numerals.{add-one}
+use native.Mathlib.Decide.{decLe}
 use mathlib.Core.Path.{_≡_, refl, sym, ap, _∙_}
 use mathlib.Core.Bool.{Bool, true, false, _&&_, false≢true, true≢false}
 use mathlib.Core.List.{List, [], _∷_}
@@ -12,11 +13,11 @@ use lib.Dec.{eqb, leb}
 use borrow.Author.Tests.{ne-eqb}
 use Rattle.lists.specs.declared.Found.the-variants.{At, Nothing}
 use Rattle.lists.specs.First.{walk, first}
-use Rattle.lists.proofs.FirstLaws.{walk-more, walk-done, first-hit, first-miss, first-none}
+use Rattle.lists.proofs.FirstLaws.{walk-more, walk-done, first-below, first-found, first-hit, first-miss, first-none, first-nowhere-at}
 use Rattle.model.specs.Table.{Table, rowAt, Nest, nestAt, nested, scanned, matchingEnd, openAt}
 use Rattle.model.specs.Table.Nest.{opens, closes, neither}
 use Rattle.model.specs.Accepted.{misnested, nestBreaks, noneOpen}
-use Rattle.table.specs.Rules.{breaks11}
+use Rattle.table.specs.Rules.{ofRow}
 use Rattle.table.specs.Code.{nestNumber, nest, openAfter, scanFrom, unnested, firstRow, InSorts}
 use Rattle.table.proofs.CodeLaws.{at-row, before-rows}
 
@@ -90,27 +91,72 @@ row-by t r q n e h = rw (e, h) (unnested-by (nestAt t r) (openAt t r) (leb (t .r
 
 -- ---- the loop over the rows: what is sought from line 0 on is what is sought from a row on
 
-module _ (t : Table) (laid : InSorts t) where
-  at : (r : ℕ) → r < t .rows → breaks11 t (t .decls + t .nodes + r) ≡ misnested t r
-  unfolding breaks11
+module _ (g : ℕ → Bool) (t : Table) (laid : InSorts t) where
+  at : (r : ℕ) → r < t .rows → ofRow g t (t .decls + t .nodes + r) ≡ g r
   at r l =
       let back : t .decls + t .nodes + r - (t .decls + t .nodes) ≡ r = omega arith in
-      at-row t laid (t .decls + t .nodes + r) (λ n. false) (misnested t) (omega arith) (omega arith) ∙ ap (misnested t) back
+      at-row t laid (t .decls + t .nodes + r) (λ n. false) g (omega arith) (omega arith) ∙ ap g back
 
-  pub rows-start : first (breaks11 t) 0 (length (t .words) / 4) ≡ firstRow t 0
-  unfolding breaks11
+  pub rows-start : first (ofRow g t) 0 (length (t .words) / 4) ≡ firstRow g t 0
   rows-start =
       let e : t .decls + t .nodes + 0 ≡ t .decls + t .nodes = omega arith in
-      rw e (first-skip (breaks11 t) (t .decls + t .nodes) (length (t .words) / 4) (omega (arith, laid .whole)) (λ j l. before-rows t laid j (misnested t) l))
+      rw e (first-skip (ofRow g t) (t .decls + t .nodes) (length (t .words) / 4) (omega (arith, laid .whole)) (λ j l. before-rows t laid j g l))
 
-  pub row-hit : (r : ℕ) → r < t .rows → misnested t r ≡ true → firstRow t r ≡ At (t .decls + t .nodes + r)
-  row-hit r l h = first-hit (breaks11 t) (t .decls + t .nodes + r) (length (t .words) / 4) (omega (arith, laid .whole)) (at r l ∙ h)
+  pub row-hit : (r : ℕ) → r < t .rows → g r ≡ true → firstRow g t r ≡ At (t .decls + t .nodes + r)
+  row-hit r l h = first-hit (ofRow g t) (t .decls + t .nodes + r) (length (t .words) / 4) (omega (arith, laid .whole)) (at r l ∙ h)
 
-  pub row-miss : (r : ℕ) → r < t .rows → misnested t r ≡ false → firstRow t r ≡ firstRow t (r + 1)
+  pub row-miss : (r : ℕ) → r < t .rows → g r ≡ false → firstRow g t r ≡ firstRow g t (r + 1)
   row-miss r l h =
       let e : t .decls + t .nodes + r + 1 ≡ t .decls + t .nodes + (r + 1) = omega arith in
-      first-miss (breaks11 t) (t .decls + t .nodes + r) (length (t .words) / 4) (omega (arith, laid .whole)) (at r l ∙ h)
-      ∙ ap (λ (i : ℕ). first (breaks11 t) i (length (t .words) / 4 - i)) e
+      first-miss (ofRow g t) (t .decls + t .nodes + r) (length (t .words) / 4) (omega (arith, laid .whole)) (at r l ∙ h)
+      ∙ ap (λ (i : ℕ). first (ofRow g t) i (length (t .words) / 4 - i)) e
 
-  pub row-none : (r : ℕ) → t .rows ≤ r → firstRow t r ≡ Nothing
-  row-none r l = first-none (breaks11 t) (t .decls + t .nodes + r) (length (t .words) / 4) (omega (arith, laid .whole))
+  pub row-none : (r : ℕ) → t .rows ≤ r → firstRow g t r ≡ Nothing
+  row-none r l = first-none (ofRow g t) (t .decls + t .nodes + r) (length (t .words) / 4) (omega (arith, laid .whole))
+
+  -- what is sought, by the rows: past those that do not break it, at the first that does, nowhere
+  rows-past : (k : ℕ) → k ≤ t .rows → ((r : ℕ) → r < k → g r ≡ false) → first (ofRow g t) 0 (length (t .words) / 4) ≡ firstRow g t k
+  rows-past zero l h = rows-start
+  rows-past (suc k) l h = rows-past k (omega arith) (λ r b. h r (omega arith)) ∙ row-miss k l (h k (omega arith)) ∙ ap (firstRow g t) (add-one k)
+
+  pub rows-first : (k : ℕ) → k < t .rows → ((r : ℕ) → r < k → g r ≡ false) → g k ≡ true
+      → first (ofRow g t) 0 (length (t .words) / 4) ≡ At (t .decls + t .nodes + k)
+  rows-first k l h e = rows-past k (omega arith) h ∙ row-hit k l e
+
+  pub rows-none : ((r : ℕ) → r < t .rows → g r ≡ false) → first (ofRow g t) 0 (length (t .words) / 4) ≡ Nothing
+  rows-none h = rows-past (t .rows) (omega arith) h ∙ row-none (t .rows) (omega arith)
+
+  -- a check that no row breaks
+  pub no-row : first (ofRow g t) 0 (length (t .words) / 4) ≡ Nothing → (r : ℕ) → r < t .rows → g r ≡ false
+  no-row e r l =
+      sym (at r l) ∙ first-nowhere-at (length (t .words) / 4) (ofRow g t) 0 e (t .decls + t .nodes + r) (omega arith) (omega (arith, laid .whole))
+
+  -- the first row that breaks it, by the line that is found
+  pub record RowFound (line : ℕ) : Type 0 where
+    pub row : ℕ
+    pub there : row < t .rows
+    pub place : line ≡ t .decls + t .nodes + row
+    pub holds : g row ≡ true
+    pub first : (r : ℕ) → r < row → g r ≡ false
+
+  pub row-found : (line : ℕ) → first (ofRow g t) 0 (length (t .words) / 4) ≡ At line → RowFound line
+  row-found line e =
+      let F = first-found (length (t .words) / 4) (ofRow g t) 0 line e in
+      let below : line < length (t .words) / 4 = omega (arith, first-below (length (t .words) / 4) (ofRow g t) 0 line e) in
+      let rows : t .decls + t .nodes ≤ line = after line (F .0) in
+      let r = line - (t .decls + t .nodes) in
+      let is : line ≡ t .decls + t .nodes + r = omega arith in
+      let there : r < t .rows = omega (arith, laid .whole) in
+      record {
+        row = r;
+        there = there;
+        place = is;
+        holds = sym (at r there) ∙ ap (ofRow g t) (sym is) ∙ F .0;
+        first = λ q l. sym (at q (omega arith)) ∙ F .1 (t .decls + t .nodes + q) (omega arith) (omega arith);
+      }
+    where
+      after : (i : ℕ) → ofRow g t i ≡ true → t .decls + t .nodes ≤ i
+      after i h = elim (decLe (t .decls + t .nodes) i) [
+        | yes l ↦ l
+        | no l ↦ absurd (false≢true (sym (before-rows t laid i g (omega arith)) ∙ h))
+      ]

@@ -21,7 +21,7 @@ use Rattle.model.specs.Table.Nest.{opens}
 use Rattle.model.specs.State.{MachineKind}
 use Rattle.model.specs.Step.{node}
 use Rattle.model.specs.Accepted.{Accepted, known, misnested, mostOpen, nestBreaks, nodeSuitsMark, nodeThere, nodeTyped, rowSuitsMark, rowThere, rowTyped}
-use Rattle.table.specs.Rules.{breaks10, breaks11, breaks12, breaks8, breaks9, depth, mostDepth, ofNodeOrRow}
+use Rattle.table.specs.Rules.{breaks10, breaks11, breaks12, breaks16, breaks8, breaks9, depth, mostDepth, ofNodeOrRow, sharesIterator}
 use Rattle.table.specs.Checks.{andThen, breaks, firstRefusal, order, refusedAtLine, sizeCheck, tableCheck}
 use Rattle.table.proofs.Sizes.{all-lines, line-known, no-declaration, no-node-at, node-at, not-false, or-right}
 
@@ -52,6 +52,7 @@ pub record Passing (m : MachineKind) (w : List ℕ) : Type 0 where
   pub none10 : Unbroken 10 m w
   pub none11 : Unbroken 11 m w
   pub none12 : Unbroken 12 m w
+  pub none16 : Unbroken 16 m w
 
 one-passes : (f : ℕ → Found) (k : ℕ) (ks : List ℕ) → firstRefusal f (k ∷ ks) ≡ Passes → (f k ≡ Nothing) × (firstRefusal f ks ≡ Passes)
 unfolding firstRefusal
@@ -79,6 +80,7 @@ module _ (m : MachineKind) (w : List ℕ) where
           let p10 = one-passes find 10 _ (p9 .1) in
           let p11 = one-passes find 11 _ (p10 .1) in
           let p12 = one-passes find 12 _ (p11 .1) in
+          let p16 = one-passes find 16 _ (p12 .1) in
           record {
             whole = eqb-true (length w % 4) 0 u;
             none5 = p5 .0;
@@ -89,13 +91,14 @@ module _ (m : MachineKind) (w : List ℕ) where
             none10 = p10 .0;
             none11 = p11 .0;
             none12 = p12 .0;
+            none16 = p16 .0;
           }
       go false u h = absurd (let z : _≡_ {A = ℕ} 0 1 = cc in omega arith)
 
   -- and back
   pub passes : Passing m w → tableCheck m w ≡ Passes
   unfolding tableCheck firstRefusal
-  passes P = rw (P .whole, P .none5, P .none6, P .none7, P .none8, P .none9, P .none10, P .none11, P .none12)
+  passes P = rw (P .whole, P .none5, P .none6, P .none7, P .none8, P .none9, P .none10, P .none11, P .none12, P .none16)
 
   module _ (P : Passing m w) where
     abbrev t : Table
@@ -159,6 +162,11 @@ module _ (m : MachineKind) (w : List ℕ) where
     few-open r h e =
         leb-false mostOpen (length (openAt t r)) (or-right (leb (t .rows) (matchingEnd t r)) (leb mostOpen (length (openAt t r)))
         (subst (λ (n : Nest). nestBreaks n (openAt t r) (leb (t .rows) (matchingEnd t r)) ≡ false) e (row-nested r h)))
+
+    -- 16, for those above who count on it
+    pub row-apart : (r : ℕ) → r < t .rows → sharesIterator t 0 r ≡ false
+    unfolding breaks breaks16
+    row-apart r h = of-row (λ n. false) (sharesIterator t 0) r h (unbroken 16 (P .none16) (t .decls + t .nodes + r) (omega arith))
 
     node-suits-mark : (n : ℕ) → n < t .nodes → nodeSuitsMark m t n ≡ true
     unfolding breaks breaks12

@@ -3,27 +3,30 @@
 use Prim.Native.Nat.{ℕ, _+_, _-_, _/_, _%_, _<_}
 use native.Mathlib.Omega.{arith}
 use mathlib.Core.Path.{_≡_, refl, sym, ap, _∙_, subst, fun-ext}
-use mathlib.Core.Bool.{Bool, true, false, not}
+use mathlib.Core.Bool.{Bool, true, false, not, _&&_}
 use mathlib.Core.List.{List}
 use lib.ListN.{length}
-use lib.Dec.{ltb}
+use lib.Dec.{ltb, leb, eqb}
 use Rattle.lists.specs.declared.Found.the-variants.{Nothing}
 use Rattle.lists.specs.If.{if_then_else_}
+use Rattle.lists.specs.Tab.{any}
 use Rattle.lists.specs.First.{first}
 use Rattle.lists.specs.Falling.{valueAt}
 use Rattle.lists.proofs.FirstLaws.{first-nowhere}
-use Rattle.model.specs.Table.{Table, isDeclaration, isNode, lineAt, lineCount, marked, markedUint, nodeAt, nodeKind, nodeRoles, rowKind, rowRoles, tableOf}
+use Rattle.model.specs.Table.{Table, isDeclaration, isNode, lineAt, lineCount, marked, markedUint, nestAt, nodeAt, nodeKind, nodeRoles, openAt, rowAt}
+use Rattle.model.specs.Table.{rowKind, rowRoles, tableOf}
 use Rattle.model.specs.State.MachineKind.{plain, reduced}
 use Rattle.model.specs.Eval.{below}
 use Rattle.model.specs.Step.{node}
 use Rattle.model.specs.Reduce.{reduce, reducedKind}
 use Rattle.model.specs.Accepted.{Accepted, known, misnested, nodeSuitsMark, nodeThere, nodeTyped, rowSuitsMark, rowThere, rowTyped}
+use Rattle.model.proofs.KindsIn.{nest-same}
 use Rattle.model.proofs.ReduceLaws.{declaration-stays, length-reduce, new-node, new-row, reduce-a, reduce-b, reduce-c, reduce-kind, reducedTable}
 use Rattle.model.proofs.ReduceLaws.{same-declaration, same-isNode, same-isRow, table-reduce}
 use Rattle.model.proofs.ReducedAccepted.{R, kind-known, nested-same, node-suit, row-suit, rowThere-same, rowTyped-same, same-roles, same-rowRoles}
-use Rattle.model.proofs.ReducedAccepted.{there-same, typed-same}
-use Rattle.table.specs.Rules.{breaks10, breaks11, breaks12, breaks5, breaks6, breaks7, breaks8, breaks9, depth, depthBy, kindAt, mostDepth}
-use Rattle.table.specs.Rules.{ofNodeOrRow, rolesOf, sortNumber}
+use Rattle.model.proofs.ReducedAccepted.{open-same, there-same, typed-same}
+use Rattle.table.specs.Rules.{breaks10, breaks11, breaks12, breaks16, breaks5, breaks6, breaks7, breaks8, breaks9, depth, depthBy, kindAt, mostDepth}
+use Rattle.table.specs.Rules.{ofNodeOrRow, opensLoop, rolesOf, sharesIterator, sortNumber}
 use Rattle.table.specs.Checks.{breaks}
 use Rattle.table.proofs.Sizes.{or-right}
 use Rattle.table.proofs.Passing.{Passing, Unbroken, accepted, total, unbroken}
@@ -73,6 +76,14 @@ module _ (w : List ℕ) (P : Passing plain w) where
           rw (R t A .nodes .kind n, R t A .nodes .a n, R t A .nodes .b n, R t A .nodes .c n, same-roles (markedUint t (nodeAt t n .a))
               (nodeKind (nodeAt t n .kind)))
 
+  -- the reduction keeps which rows open loops, and their iterators
+  shares-same : (r : ℕ) → sharesIterator u 0 r ≡ sharesIterator t 0 r
+  unfolding sharesIterator
+  shares-same r =
+      let iterators : _≡_ {A = ℕ → ℕ} (λ o. rowAt u o .a) (λ o. rowAt t o .a) = fun-ext (R t A .a) in
+      rw (nest-same t u (R t A) r, open-same t A r)
+      (ap (λ (f : ℕ → ℕ). opensLoop (nestAt t r) && any (λ o. leb 0 o && eqb (f o) (f r)) (openAt t r)) iterators)
+
   module _ (i : ℕ) (l : i < lineCount t) where
     same5 : breaks 5 reduced u i ≡ false
     unfolding breaks breaks5 tableOf
@@ -121,6 +132,10 @@ module _ (w : List ℕ) (P : Passing plain w) where
     same11 =
         same-of (λ n. false) (λ n. false) (misnested u) (misnested t) (λ n. refl) (nested-same t A) i ∙ unbroken plain w P 11 (P .none11) i l
 
+    same16 : breaks 16 reduced u i ≡ false
+    unfolding breaks breaks16
+    same16 = same-of (λ n. false) (λ n. false) (sharesIterator u 0) (sharesIterator t 0) (λ n. refl) shares-same i ∙ unbroken plain w P 16 (P .none16) i l
+
     same12 : breaks 12 reduced u i ≡ false
     unfolding breaks breaks12
     same12 = none-breaks u i (λ n. not (nodeSuitsMark reduced u n)) (λ r. not (rowSuitsMark reduced u r)) (λ n. ap not (node-suit t A n))
@@ -143,4 +158,5 @@ module _ (w : List ℕ) (P : Passing plain w) where
     none10 = unbroken-reduced 10 same10;
     none11 = unbroken-reduced 11 same11;
     none12 = unbroken-reduced 12 same12;
+    none16 = unbroken-reduced 16 same16;
   }

@@ -13,7 +13,7 @@ use Rattle.model.specs.State.{MachineKind}
 use Rattle.model.specs.State.MachineKind.{plain, reduced}
 use Rattle.table.specs.declared.Verdict.{Verdict}
 use Rattle.table.specs.declared.Verdict.the-variants.{Passes, Refused}
-use Rattle.table.specs.Rules.{breaks5, breaks6, breaks7, breaks8, breaks9, breaks10, breaks11, breaks12}
+use Rattle.table.specs.Rules.{breaks5, breaks6, breaks7, breaks8, breaks9, breaks10, breaks11, breaks12, breaks16}
 
 -- the check of a number
 unfoldable pub breaks : ℕ → MachineKind → Table → ℕ → Bool
@@ -26,11 +26,12 @@ breaks k m t i =
     else (if eqb k 10 then breaks10 t i
     else (if eqb k 11 then breaks11 t i
     else (if eqb k 12 then breaks12 m t i
-    else false)))))))
+    else (if eqb k 16 then breaks16 t i
+    else false))))))))
 
--- the order of the checks (rule 6.2)
+-- the order of the checks, not by size: 16 stands after 12 (rule 6.2)
 abbrev pub order : List ℕ
-order = 5 ∷ 6 ∷ 7 ∷ 8 ∷ 9 ∷ 10 ∷ 11 ∷ 12 ∷ []
+order = 5 ∷ 6 ∷ 7 ∷ 8 ∷ 9 ∷ 10 ∷ 11 ∷ 12 ∷ 16 ∷ []
 
 -- the first check that a line breaks, at the first such line (rules 6.2, 6.3)
 abbrev pub refusedAtLine : Found → ℕ → Verdict → Verdict
@@ -41,12 +42,16 @@ unfoldable pub firstRefusal : (ℕ → Found) → List ℕ → Verdict
 firstRefusal f [] = Passes
 firstRefusal f (k ∷ ks) = let rest = firstRefusal f ks in refusedAtLine (f k) k rest
 
--- 4, of the number of words, at place 0 (rules 6.3, 6.9); then the others
-unfoldable pub tableCheck : MachineKind → List ℕ → Verdict
-tableCheck m w =
+-- 4, of the number of words, at place 0 (rules 6.3, 6.9); then those of a list
+abbrev pub checkedBy : List ℕ → MachineKind → List ℕ → Verdict
+checkedBy numbers m w =
     if eqb (length w % 4) 0
-    then firstRefusal (λ k. first (breaks k m (tableOf w)) 0 (length w / 4)) order
+    then firstRefusal (λ k. first (breaks k m (tableOf w)) 0 (length w / 4)) numbers
     else Refused 4 0
+
+-- the table's checks
+unfoldable pub tableCheck : MachineKind → List ℕ → Verdict
+tableCheck m w = checkedBy order m w
 
 -- whose table it is, as the code is told
 abbrev pub machineOf : Bool → MachineKind

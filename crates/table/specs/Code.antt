@@ -1,6 +1,6 @@
 -- What the code keeps in place of the model's words: counts, numbers for the cases of a kind, types and depths of nodes in a buffer.
 use mathlib.Core.Path.{_≡_}
-use Prim.Native.Nat.{ℕ, _+_, _-_, _*_, _/_, _<_, _≤_}
+use Prim.Native.Nat.{ℕ, zero, suc, _+_, _-_, _*_, _/_, _<_, _≤_}
 use mathlib.Core.Bool.{Bool, true, false, not, _&&_, _||_}
 use mathlib.Core.List.{List, [], _∷_}
 use lib.ListN.{length, getD}
@@ -16,9 +16,9 @@ use Rattle.model.specs.Table.Node.{reducedCell, reducedValid, noNode}
 use Rattle.model.specs.Table.Row.{skip, assign, store, assert, assume, array, loop, loopEnd, reducedStore, reducedArray, classLoop, noRow}
 use Rattle.model.specs.Table.Role.{unused, flag, number, aVariable, aNode}
 use Rattle.model.specs.Table.Nest.{opens, closes, neither}
-use Rattle.model.specs.Accepted.{mostOpen, nodeThere, rowThere, nodeType, tyNumber}
+use Rattle.model.specs.Accepted.{mostOpen, nodeThere, rowThere, nodeType, tyNumber, misnested}
 use Rattle.table.specs.declared.Counts.{Counts}
-use Rattle.table.specs.Rules.{kindAt, depth, breaks11}
+use Rattle.table.specs.Rules.{kindAt, depth, ofRow}
 use Rattle.table.specs.Checks.{machineOf, breaks}
 
 abbrev pub countsOf : List ℕ → Counts
@@ -185,9 +185,9 @@ scanFrom t i d = walk (λ i rest. scanned (nestAt t i) i rest) (λ d. t .rows) i
 abbrev pub unnested : ℕ → ℕ → Bool → Bool
 unnested k n unclosed = if eqb k 2 then eqb n 0 else (if eqb k 1 then unclosed || leb mostOpen n else false)
 
--- 11, sought from row r on
-abbrev pub firstRow : Table → ℕ → Found
-firstRow t r = first (breaks11 t) (t .decls + t .nodes + r) (length (t .words) / 4 - (t .decls + t .nodes + r))
+-- a check of rows, sought from row r on
+abbrev pub firstRow : (ℕ → Bool) → Table → ℕ → Found
+firstRow row t r = first (ofRow row t) (t .decls + t .nodes + r) (length (t .words) / 4 - (t .decls + t .nodes + r))
 
 -- ---- the code's table by kind
 
@@ -259,6 +259,10 @@ pub record There (t : Table) : Type 0 where
   pub nodes : (n : ℕ) → n < t .nodes → nodeThere t n ≡ true
   pub rows : (r : ℕ) → r < t .rows → rowThere t r ≡ true
 
+-- 11
+pub record WellNested (t : Table) : Type 0 where
+  pub rows : (r : ℕ) → r < t .rows → misnested t r ≡ false
+
 -- ---- buffers
 
 -- the buffer has the types of the first n nodes
@@ -294,6 +298,11 @@ pub record Kept (t : Table) (depths : List ℕ) : Type 0 where
 -- the depth of an operand of node n, by its role
 abbrev pub depthUnder : Table → ℕ → ℕ → ℕ → ℕ
 depthUnder t n role x = if eqb role 4 then (if ltb x n then depth t x else 0) else 0
+
+-- the rows of the open loops, the innermost first: the first n words of the buffer, the last of them first
+unfoldable pub keptRows : List ℕ → ℕ → List ℕ
+keptRows buffer zero = []
+keptRows buffer (suc n) = getD buffer n 0 ∷ keptRows buffer n
 
 -- the first line that breaks a check
 abbrev pub firstOf : ℕ → Bool → List ℕ → Counts → Found

@@ -3,3 +3,4 @@ pub mod Rules
 pub mod Checks
 pub mod Code
 pub mod Promises
+pub mod Iterators

@@ -1,11 +1,14 @@
--- The checks 5 to 12 of a table's line (section 6 of the rules): line i breaks the check.
+-- The checks 5 to 12 and 16 of a table's line (section 6 of the rules): line i breaks the check.
 -- What demand 3 needs of them is said in the model (specs/Accepted), and is used from there.
 use Prim.Native.Nat.{ℕ, _+_, _-_, max}
 use mathlib.Core.Bool.{Bool, true, false, not, _&&_, _||_}
 use lib.Dec.{ltb, leb, eqb}
 use Rattle.lists.specs.If.{if_then_else_}
+use Rattle.lists.specs.Tab.{any}
 use Rattle.lists.specs.Falling.{valueAt}
-use Rattle.model.specs.Table.{Table, Line, lineAt, isDeclaration, isNode, isRow, nodeAt, Role, Roles, declarationRoles, nodeRoles, rowRoles, nodeKind, rowKind}
+use Rattle.model.specs.Table.{Table, Line, lineAt, isDeclaration, isNode, isRow, nodeAt, rowAt, Role, Roles, declarationRoles, nodeRoles, rowRoles}
+use Rattle.model.specs.Table.{nodeKind, rowKind, Nest, nestAt, openAt}
+use Rattle.model.specs.Table.Nest.{opens, closes, neither}
 use Rattle.model.specs.Table.Role.{unused, flag, number, aVariable, aNode}
 use Rattle.model.specs.State.{MachineKind}
 use Rattle.model.specs.Accepted.{known, nodeThere, rowThere, nodeTyped, rowTyped, misnested, nodeSuitsMark, rowSuitsMark}
@@ -22,6 +25,10 @@ abbrev pub ofNodeOrRow : (ℕ → Bool) → (ℕ → Bool) → Table → ℕ →
 ofNodeOrRow node row t i =
     if isDeclaration (kindAt t i) then false
     else (if isNode (kindAt t i) then node (i - t .decls) else row (i - (t .decls + t .nodes)))
+
+-- a check of rows
+abbrev pub ofRow : (ℕ → Bool) → Table → ℕ → Bool
+ofRow row t i = ofNodeOrRow (λ n. false) row t i
 
 -- 5 (rule 6.10). The first line whose sort is below that of an earlier line is one whose sort is
 -- below that of the line before it; line 0 has none before it
@@ -92,8 +99,25 @@ breaks10 t i = ofNodeOrRow (λ n. ltb mostDepth (depth t n)) (λ r. false) t i
 
 -- 11 (rules 1.14, 1.15, 6.16)
 unfoldable pub breaks11 : Table → ℕ → Bool
-breaks11 t i = ofNodeOrRow (λ n. false) (misnested t) t i
+breaks11 t i = ofRow (misnested t) t i
 
 -- 12 (rules 1.16, 1.17, 6.17)
 unfoldable pub breaks12 : MachineKind → Table → ℕ → Bool
 breaks12 m t i = ofNodeOrRow (λ n. not (nodeSuitsMark m t n)) (λ r. not (rowSuitsMark m t r)) t i
+
+-- the loop of row o was opened since row b, with the iterator v
+abbrev pub openedWith : Table → ℕ → ℕ → ℕ → Bool
+openedWith t b v o = leb b o && eqb (rowAt t o .a) v
+
+abbrev pub opensLoop : Nest → Bool
+opensLoop opens = true
+opensLoop closes = false
+opensLoop neither = false
+
+-- row r opens a loop whose iterator is that of a loop opened since row b and still open, the innermost or one around it (rule 1.18)
+unfoldable pub sharesIterator : Table → ℕ → ℕ → Bool
+sharesIterator t b r = opensLoop (nestAt t r) && any (openedWith t b (rowAt t r .a)) (openAt t r)
+
+-- 16, of the loops opened since row 0, that is of all (rules 1.18, 6.23)
+unfoldable pub breaks16 : Table → ℕ → Bool
+breaks16 t i = ofRow (sharesIterator t 0) t i

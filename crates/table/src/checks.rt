@@ -2,6 +2,7 @@
 use crate::Counts;
 use crate::Verdict;
 use crate::depths::first_deep;
+use crate::iterators::first_shared;
 use crate::lines::breaks_5;
 use crate::lines::breaks_6;
 use crate::lines::breaks_7;
@@ -115,7 +116,7 @@ fn first_sense(
     Found::Nothing
 }
 
-// Checks 9 to 12, with the types at hand.
+// Checks 9 to 12 and 16, with the types at hand.
 fn check_with(
     words: &[u32],
     counts: Counts,
@@ -124,7 +125,7 @@ fn check_with(
 ) -> Verdict
     requires { ⌜ InSorts (tableBy (now words) counts) × There (tableBy (now words) counts) ⌝ }
     requires { ⌜ Types (tableBy (now words) counts) (now types) (counts .nodes) ⌝ }
-    ensures { λ r. ⌜ r ≡ firstRefusal (λ k. firstOf k reduced (now (words .entry)) counts) (9 ∷ 10 ∷ 11 ∷ 12 ∷ []) ⌝ }
+    ensures { λ r. ⌜ r ≡ firstRefusal (λ k. firstOf k reduced (now (words .entry)) counts) (9 ∷ 10 ∷ 11 ∷ 12 ∷ 16 ∷ []) ⌝ }
 {
     if let Found::At(i) = first_sense(9, words, counts, reduced, types) {
         return Verdict::Refused(9, i);
@@ -138,13 +139,16 @@ fn check_with(
     if let Found::At(i) = first_sense(12, words, counts, reduced, types) {
         return Verdict::Refused(12, i);
     }
+    if let Found::At(i) = first_shared(words, counts) {
+        return Verdict::Refused(16, i);
+    }
     Verdict::Passes
 }
 
-// Checks 9 to 12, of a table that passes 4 to 8.
+// Checks 9 to 12 and 16, of a table that passes 4 to 8.
 pub(crate) fn check_senses(words: &[u32], counts: Counts, reduced: bool) -> Verdict
     requires { ⌜ InSorts (tableBy (now words) counts) × There (tableBy (now words) counts) ⌝ }
-    ensures { λ r. ⌜ r ≡ firstRefusal (λ k. firstOf k reduced (now (words .entry)) counts) (9 ∷ 10 ∷ 11 ∷ 12 ∷ []) ⌝ }
+    ensures { λ r. ⌜ r ≡ firstRefusal (λ k. firstOf k reduced (now (words .entry)) counts) (9 ∷ 10 ∷ 11 ∷ 12 ∷ 16 ∷ []) ⌝ }
 {
     let mut types = [0u32; 1024];
     fill_types(words, counts, &mut types);

@@ -1,4 +1,4 @@
-// The checks 4 to 12 of a table, plain or reduced: the first refusal by number and line.
+// The checks 4 to 12 and 16 of a table, plain or reduced: the first refusal by number and line.
 use crate::checks::check_lines;
 use crate::checks::check_senses;
 use crate::sorts::counts_of;
@@ -12,9 +12,10 @@ mod lines; // lines.rt: checks 5 to 8
 mod types; // types.rt: types of nodes, check 9
 mod depths; // depths.rt: depths of nodes, check 10
 pub mod marks; // marks.rt: marks of variables, check 12
+mod iterators; // iterators.rt: iterators of open loops, check 16
 mod checks; // checks.rt: the checks in their order
 
-// The answer of a check: it passes, or it is refused with a number from 1 to 15 and the place (rule 6.1).
+// The answer of a check: it passes, or it is refused with a number from 1 to 16 and the place (rule 6.1).
 pub enum Verdict {
     Passes,
     Refused(u32, usize),
@@ -27,7 +28,7 @@ pub struct Counts {
     pub rows: usize,
 }
 
-// The first refusal of the words as a plain or a reduced table: 4 at place 0, or 5 to 12 at a line.
+// The first refusal of the words as a plain or a reduced table: 4 at place 0, or 5 to 12 or 16 at a line.
 pub fn check_table(words: &[u32], reduced: bool) -> Verdict
     ensures { λ r. ⌜ r ≡ tableCheck (machineOf reduced) (now (words .entry)) ⌝ }
 {

@@ -18,7 +18,7 @@ const CLOSES: u32 = 2;
 const MOST: usize = 8;
 
 // The open loops after a row, from those before it.
-fn open_after(nest: u32, count: usize) -> usize
+pub(crate) fn open_after(nest: u32, count: usize) -> usize
     requires { ⌜ count < 2 ^ 62 ⌝ }
     ensures { λ r. ⌜ (r ≡ openAfter nest count) × (r ≤ count + 1) ⌝ }
 {

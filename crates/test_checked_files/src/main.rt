@@ -3,7 +3,7 @@
 use testing::print_part;
 use testing::word;
 
-const ROOM: usize = 22541;
+const ROOM: usize = 24576;
 
 const TABLE: usize = 5248;
 

@@ -8,7 +8,7 @@ use Rattle.test_checked_files.proofs.main.Statement.{statement}
 use Rattle.test_checked_files.proofs.main.Tie as tie
 
 abbrev Inv-loop : tie.InvT-loop
-Inv-loop room₀ k₀ room k = length room ≡ 22541
+Inv-loop room₀ k₀ room k = length room ≡ 24576
 
 abbrev μ-loop : tie.MeasureT-loop
 μ-loop room₀ k₀ room k = 1000 - k

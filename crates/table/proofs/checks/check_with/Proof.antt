@@ -6,7 +6,7 @@ use mathlib.Core.Path.{refl, sym, _∙_}
 use mathlib.Core.List.{[], _∷_}
 use Rattle.lists.specs.declared.Found.{Found}
 use Rattle.table.specs.Code.{firstOf}
-use Rattle.table.proofs.CheckLaws.{eleven, none, pass, stop, ten}
+use Rattle.table.proofs.CheckLaws.{eleven, nested-of, none, pass, sixteen, stop, ten}
 use Rattle.table.proofs.checks.check_with.Statement.{statement}
 use Rattle.table.proofs.checks.check_with.Tie as tie
 
@@ -15,80 +15,95 @@ first-sense-requires c κs = let s = c .before .before in (λ e. absurd (e refl)
 
 returns : tie.Need-returns
 returns c =
-    let start = c .before .before .before .before .before .before in
-    let a = start .args in
+    let types = c .before .before .before in
+    let a = types .before .before .before .args in
     let f : ℕ → Found = λ k. firstOf k (a .reduced) (a .words .now) (a .counts) in
-    sym (
-    stop f 9 (10 ∷ 11 ∷ 12 ∷ []) _ (sym (c .before .before .before .first-sense .ensures) ∙ c .before .i .given .1)
-    )
+    sym (stop f 9 (10 ∷ 11 ∷ 12 ∷ 16 ∷ []) _ (sym (types .first-sense .ensures) ∙ c .before .i .given .1))
 
 returns-2 : tie.Need-returns-2
 returns-2 c =
-    let start = c .before .before .before .before .before .before .before .before .before in
-    let a = start .args in
+    let depths = c .before .before .before in
+    let types = depths .before .before .before in
+    let a = types .before .before .before .args in
     let f : ℕ → Found = λ k. firstOf k (a .reduced) (a .words .now) (a .counts) in
-    let at9 = c .before .before .before .before .before .before in
     sym (
-    pass f 9 (10 ∷ 11 ∷ 12 ∷ []) (sym (at9 .first-sense .ensures) ∙ c .before .before .before .before .enum-told .given .1)
-    ∙ stop f 10 (11 ∷ 12 ∷ []) _ (ten (a .reduced) (a .words .now) (a .counts) ∙ sym (c .before .before .before .first-deep .ensures) ∙ c .before .i2 .given .1)
+    pass f 9 (10 ∷ 11 ∷ 12 ∷ 16 ∷ []) (sym (types .first-sense .ensures) ∙ depths .before .enum-told .given .1)
+    ∙ stop f 10 (11 ∷ 12 ∷ 16 ∷ []) _ (ten (a .reduced) (a .words .now) (a .counts) ∙ sym (depths .first-deep .ensures) ∙ c .before .i2 .given .1)
     )
 
 returns-3 : tie.Need-returns-3
 returns-3 c =
-    let start = c .before .before .before .before .before .before .before .before .before .before .before .before in
-    let a = start .args in
+    let loops = c .before .before .before in
+    let depths = loops .before .before .before in
+    let types = depths .before .before .before in
+    let a = types .before .before .before .args in
     let f : ℕ → Found = λ k. firstOf k (a .reduced) (a .words .now) (a .counts) in
-    let at10 = c .before .before .before .before .before .before in
-    let at9 = c .before .before .before .before .before .before .before .before .before in
     sym (
-    pass f 9 (10 ∷ 11 ∷ 12 ∷ []) (sym (at9 .first-sense .ensures) ∙ c .before .before .before .before .before .before .before .enum-told .given .1)
-    ∙ pass f 10 (11 ∷ 12 ∷ [])
-        (ten (a .reduced) (a .words .now) (a .counts) ∙ sym (at10 .first-deep .ensures) ∙ c .before .before .before .before .enum-told2 .given .1)
-    ∙ stop f 11 (12 ∷ []) _
-        (eleven (a .reduced) (a .words .now) (a .counts) ∙ sym (c .before .before .before .first-unnested .ensures) ∙ c .before .i3 .given .1)
+    pass f 9 (10 ∷ 11 ∷ 12 ∷ 16 ∷ []) (sym (types .first-sense .ensures) ∙ depths .before .enum-told .given .1)
+    ∙ pass f 10 (11 ∷ 12 ∷ 16 ∷ []) (ten (a .reduced) (a .words .now) (a .counts) ∙ sym (depths .first-deep .ensures) ∙ loops .before .enum-told2 .given .1)
+    ∙ stop f 11 (12 ∷ 16 ∷ []) _ (eleven (a .reduced) (a .words .now) (a .counts) ∙ sym (loops .first-unnested .ensures) ∙ c .before .i3 .given .1)
     )
 
 first-sense-requires-2 : tie.Need-first-sense-requires-2
-first-sense-requires-2 c κs = let s = c .before .before .before .before .before .before .before .before .before .before .before in
+first-sense-requires-2 c κs =
+    let s = c .before .before .before .before .before .before .before .before .before .before .before in
     (λ e. refl, (s .pre .0, s .pre .1))
 
 returns-4 : tie.Need-returns-4
 returns-4 c =
-    let start = c .before .before .before .before .before .before .before .before .before .before .before .before .before .before .before in
-    let a = start .args in
+    let marks = c .before .before .before in
+    let loops = marks .before .before .before in
+    let depths = loops .before .before .before in
+    let types = depths .before .before .before in
+    let a = types .before .before .before .args in
     let f : ℕ → Found = λ k. firstOf k (a .reduced) (a .words .now) (a .counts) in
-    let at11 = c .before .before .before .before .before .before in
-    let at10 = c .before .before .before .before .before .before .before .before .before in
-    let at9 = c .before .before .before .before .before .before .before .before .before .before .before .before in
     sym (
-    pass f 9 (10 ∷ 11 ∷ 12 ∷ [])
-        (sym (at9 .first-sense .ensures) ∙ c .before .before .before .before .before .before .before .before .before .before .enum-told .given .1)
-    ∙ pass f 10 (11 ∷ 12 ∷ [])
-        (ten (a .reduced) (a .words .now) (a .counts) ∙ sym (at10 .first-deep .ensures)
-        ∙ c .before .before .before .before .before .before .before .enum-told2 .given .1)
-    ∙ pass f 11 (12 ∷ []) (eleven (a .reduced) (a .words .now) (a .counts) ∙ sym (at11 .first-unnested .ensures)
-        ∙ c .before .before .before .before .enum-told3 .given .1)
-    ∙ stop f 12 [] _ (sym (c .before .before .before .first-sense2 .ensures) ∙ c .before .i4 .given .1)
+    pass f 9 (10 ∷ 11 ∷ 12 ∷ 16 ∷ []) (sym (types .first-sense .ensures) ∙ depths .before .enum-told .given .1)
+    ∙ pass f 10 (11 ∷ 12 ∷ 16 ∷ []) (ten (a .reduced) (a .words .now) (a .counts) ∙ sym (depths .first-deep .ensures) ∙ loops .before .enum-told2 .given .1)
+    ∙ pass f 11 (12 ∷ 16 ∷ []) (eleven (a .reduced) (a .words .now) (a .counts) ∙ sym (loops .first-unnested .ensures) ∙ marks .before .enum-told3 .given .1)
+    ∙ stop f 12 (16 ∷ []) _ (sym (marks .first-sense2 .ensures) ∙ c .before .i4 .given .1)
     )
+
+first-shared-requires : tie.Need-first-shared-requires
+first-shared-requires c κs =
+    let marks = c .before .before in
+    let loops = marks .before .before .before in
+    let s = loops .before .before .before .before .before .before .before .before .before in
+    let laid = s .pre .0 .0 in
+    (laid, nested-of (s .args .words .now) (s .args .counts) laid (sym (loops .first-unnested .ensures) ∙ marks .before .enum-told3 .given .1))
 
 returns-5 : tie.Need-returns-5
 returns-5 c =
-    let start = c .before .before .before .before .before .before .before .before .before .before .before .before .before .before in
-    let a = start .args in
+    let shared = c .before .before .before in
+    let marks = shared .before .before .before in
+    let loops = marks .before .before .before in
+    let depths = loops .before .before .before in
+    let types = depths .before .before .before in
+    let a = types .before .before .before .args in
     let f : ℕ → Found = λ k. firstOf k (a .reduced) (a .words .now) (a .counts) in
-    let at12 = c .before .before in
-    let at11 = c .before .before .before .before .before in
-    let at10 = c .before .before .before .before .before .before .before .before in
-    let at9 = c .before .before .before .before .before .before .before .before .before .before .before in
     sym (
-    pass f 9 (10 ∷ 11 ∷ 12 ∷ [])
-        (sym (at9 .first-sense .ensures) ∙ c .before .before .before .before .before .before .before .before .before .enum-told .given .1)
-    ∙ pass f 10 (11 ∷ 12 ∷ [])
-        (ten (a .reduced) (a .words .now) (a .counts) ∙ sym (at10 .first-deep .ensures)
-        ∙ c .before .before .before .before .before .before .enum-told2 .given .1)
-    ∙ pass f 11 (12 ∷ []) (eleven (a .reduced) (a .words .now) (a .counts) ∙ sym (at11 .first-unnested .ensures)
-        ∙ c .before .before .before .enum-told3 .given .1)
-    ∙ pass f 12 [] (sym (at12 .first-sense2 .ensures) ∙ c .enum-told4 .given .1)
+    pass f 9 (10 ∷ 11 ∷ 12 ∷ 16 ∷ []) (sym (types .first-sense .ensures) ∙ depths .before .enum-told .given .1)
+    ∙ pass f 10 (11 ∷ 12 ∷ 16 ∷ []) (ten (a .reduced) (a .words .now) (a .counts) ∙ sym (depths .first-deep .ensures) ∙ loops .before .enum-told2 .given .1)
+    ∙ pass f 11 (12 ∷ 16 ∷ []) (eleven (a .reduced) (a .words .now) (a .counts) ∙ sym (loops .first-unnested .ensures) ∙ marks .before .enum-told3 .given .1)
+    ∙ pass f 12 (16 ∷ []) (sym (marks .first-sense2 .ensures) ∙ shared .before .enum-told4 .given .1)
+    ∙ stop f 16 [] _ (sixteen (a .reduced) (a .words .now) (a .counts) ∙ sym (shared .first-shared .ensures) ∙ c .before .i5 .given .1)
+    )
+
+returns-6 : tie.Need-returns-6
+returns-6 c =
+    let shared = c .before .before in
+    let marks = shared .before .before .before in
+    let loops = marks .before .before .before in
+    let depths = loops .before .before .before in
+    let types = depths .before .before .before in
+    let a = types .before .before .before .args in
+    let f : ℕ → Found = λ k. firstOf k (a .reduced) (a .words .now) (a .counts) in
+    sym (
+    pass f 9 (10 ∷ 11 ∷ 12 ∷ 16 ∷ []) (sym (types .first-sense .ensures) ∙ depths .before .enum-told .given .1)
+    ∙ pass f 10 (11 ∷ 12 ∷ 16 ∷ []) (ten (a .reduced) (a .words .now) (a .counts) ∙ sym (depths .first-deep .ensures) ∙ loops .before .enum-told2 .given .1)
+    ∙ pass f 11 (12 ∷ 16 ∷ []) (eleven (a .reduced) (a .words .now) (a .counts) ∙ sym (loops .first-unnested .ensures) ∙ marks .before .enum-told3 .given .1)
+    ∙ pass f 12 (16 ∷ []) (sym (marks .first-sense2 .ensures) ∙ shared .before .enum-told4 .given .1)
+    ∙ pass f 16 [] (sixteen (a .reduced) (a .words .now) (a .counts) ∙ sym (shared .first-shared .ensures) ∙ c .enum-told5 .given .1)
     ∙ none f
     )
 
@@ -112,4 +127,8 @@ check-with-spec =
     (λ c. search needs)
     returns-4
     (λ c. search needs)
-    returns-5)
+    first-shared-requires
+    (λ c. search needs)
+    returns-5
+    (λ c. search needs)
+    returns-6)

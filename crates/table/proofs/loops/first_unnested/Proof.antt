@@ -7,7 +7,8 @@ use mathlib.Core.Path.{_≡_, refl, sym, _∙_}
 use lib.ListN.{length}
 use Rattle.lists.specs.First.{first}
 use Rattle.model.specs.Table.{openAt}
-use Rattle.table.specs.Rules.{breaks11}
+use Rattle.model.specs.Accepted.{misnested}
+use Rattle.table.specs.Rules.{breaks11, ofRow}
 use Rattle.table.specs.Code.{tableBy, firstRow}
 use Rattle.table.proofs.LoopLaws.{open-more, row-by, row-hit, row-miss, row-none, rows-start}
 use Rattle.table.proofs.loops.first_unnested.Statement.{statement}
@@ -18,7 +19,7 @@ Inv-loop words counts count₀ row₀ count row =
     (row ≤ counts .rows)
     × (count ≡ length (openAt (tableBy words counts) row))
     × (count ≤ row)
-    × (first (breaks11 (tableBy words counts)) 0 (length words / 4) ≡ firstRow (tableBy words counts) row)
+    × (let t = tableBy words counts in first (ofRow (misnested t) t) 0 (length words / 4) ≡ firstRow (misnested t) t row)
 
 abbrev μ-loop : tie.MeasureT-loop
 μ-loop words counts count₀ row₀ count row = counts .rows - row
@@ -26,9 +27,10 @@ abbrev μ-loop : tie.MeasureT-loop
 loop-holds : tie.Need-loop-holds Inv-loop μ-loop
 unfolding openAt
 loop-holds c = let t = tableBy (c .before .args .words .now) (c .before .args .counts) in
-    (search needs, refl, search needs, rows-start t (c .before .pre))
+    (search needs, refl, search needs, rows-start (misnested t) t (c .before .pre))
 
 returns : tie.Need-returns Inv-loop μ-loop
+unfolding breaks11
 returns c =
     let start = c .before .before .before .before .before .before .before .before .before in
     let t = tableBy (start .args .words .now) (start .args .counts) in
@@ -36,7 +38,7 @@ returns c =
     let inside = c .before .before .before .before .before .if1 .taken in
     let nested = c .before .before .nest-of in
     let breaks = row-by t (at-head .row) (nested .result) (at-head .count) (nested .ensures) (at-head .inv .1) in
-    sym (at-head .inv .3 ∙ row-hit t (start .pre) (at-head .row) inside (breaks ∙ sym (c .before .row-breaks .ensures) ∙ c .if2 .taken))
+    sym (at-head .inv .3 ∙ row-hit (misnested t) t (start .pre) (at-head .row) inside (breaks ∙ sym (c .before .row-breaks .ensures) ∙ c .if2 .taken))
 
 loop-again : tie.Need-loop-again Inv-loop μ-loop
 loop-again c =
@@ -49,15 +51,16 @@ loop-again c =
       search needs,
       rw (c .open-after .ensures .0, nested .ensures, at-head .inv .1) (sym (open-more t (at-head .row))),
       omega (arith, c .open-after .ensures .1),
-      at-head .inv .3 ∙ row-miss t (start .pre) (at-head .row) inside (breaks ∙ sym (c .before .before .row-breaks .ensures) ∙ c .before .if2 .left),
+      at-head .inv .3 ∙ row-miss (misnested t) t (start .pre) (at-head .row) inside (breaks ∙ sym (c .before .before .row-breaks .ensures) ∙ c .before .if2 .left),
     )
 
 returns-2 : tie.Need-returns-2 Inv-loop μ-loop
+unfolding breaks11
 returns-2 c =
     let start = c .before .before .before .before in
     let t = tableBy (start .args .words .now) (start .args .counts) in
     let at-head = c .before .before .loop in
-    sym (at-head .inv .3 ∙ row-none t (start .pre) (at-head .row) (c .if1 .left))
+    sym (at-head .inv .3 ∙ row-none (misnested t) t (start .pre) (at-head .row) (c .if1 .left))
 
 pub first-unnested-spec : {M : Type 1} → statement M
 first-unnested-spec =
