@@ -1,5 +1,5 @@
 //! Does in plain Rust what test_run_cases does for each case of standard input, and prints the same lines. Tables are taken to pass the checks
-//! and runs to have no edits; 13 and 14 are checked, 4 to 12 and 15 are not.
+//! and runs to have no edits; 13 and 14 are checked, the table's checks and 15 are not.
 use std::hint::black_box;
 use std::io::{self, BufWriter, Read, Write};
 

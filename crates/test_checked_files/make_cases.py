@@ -4,7 +4,7 @@
 Run as: make_cases.py FIRST LAST, two folders of vectors for `pairrun`, cases.bin and index.txt: those handed out with the demands, and those of the
 last request. The first cases are worked out here, by hand, from docs/RULES.md; the others are the vectors that are refused, with their output, and
 the shorter ones that are not, which pass. Of the first vectors one is left out, which refuses neighbours, a pair now; and those with a loop in a loop
-of the same iterator, which passed then, are refused with 16.
+of the same iterator, which passed then or were refused with 13, are refused with 16.
 """
 import pathlib
 import struct
@@ -232,14 +232,14 @@ def add_vectors(vectors, void, before_16=False):
         c1, c2, limit = struct.unpack_from("<3I", bytes_) if n >= 12 else (0, 0, 0)
         if limit == BIG or void(output, c1, c2):
             continue
-        table_passes = not output.startswith("refused")
-        if table_passes and n > 2000:
-            continue
-        lines = rules.read(bytes_[12:])[1]
-        if table_passes:
-            output = "passes %d" % len(lines)
-        if before_16 and (table_passes or output == "refused 13 line 0") and shared(lines) is not None:
-            output = "refused 16 line %d" % shared(lines)
+        passed = not output.startswith("refused")
+        if passed:
+            if n > 2000:
+                continue
+            output = "passes %d" % (struct.unpack_from("<I", bytes_, 12 + 4 * 126)[0] if n > 12 else 0)
+        if before_16 and (passed or output == "refused 13 line 0"):
+            line = shared(rules.read(bytes_[12:])[1])
+            output = output if line is None else "refused 16 line %d" % line
         CASES.append((bytes_, output))
 
 

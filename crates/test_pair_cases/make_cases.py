@@ -114,8 +114,10 @@ def one_loop_at_a_time():
             yield struct.pack("<3I", c1, c2, 9) + write([declaration, constant(0), inner, inner, end, end]), ["refused 16 line 3"]
         yield struct.pack("<3I", 1, 3, 9) + write([declaration, constant(0), inner, inner, end, end, end]), ["refused 11 line 6"]
     yield struct.pack("<3I", 1, 1, 9) + write([MU, constant(0), inner, inner, end, end, (33, 0, 0, 0)]), ["refused 12 line 6"]
-    beside = ["plain done row 4 steps 4", "pair done row 4 steps 4 choices 0"]
-    yield struct.pack("<3I", 1, 3, 9) + write([U, constant(0), inner, end, inner, end]), beside
+    # loops side by side; a marked one takes a start and an end where it is entered, and both again at its 39
+    for declaration, choices in (U, 0), (MU, 8):
+        beside = ["plain done row 4 steps 4", "pair done row 4 steps 4 choices %d" % choices]
+        yield struct.pack("<3I", 1, 3, 9) + write([declaration, constant(0), inner, end, inner, end]), beside
 
 
 def main():

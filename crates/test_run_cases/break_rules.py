@@ -240,7 +240,7 @@ def tried_on_buffers(b, modules, cases):
 
 
 def tried_on_rules(b, rules, cases):
-    """Breakages of the file and of the checks up to 13; what comes after a refusal that changes is not run."""
+    """Breakages of the file, of the table's checks and of 13; what comes after a refusal that changes is not run."""
 
     def refusal_of(data):
         return rules.refusal_of_input(data)[0]

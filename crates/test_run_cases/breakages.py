@@ -1318,7 +1318,7 @@ broken(
     file=PAIRS,
 )
 
-# Check 15, and the order of 13, 14 and 15
+# Check 15, and the order of the table's checks, 13, 14 and 15
 
 RECORD = {"continued": True, "stops": True}
 ABOVE = "    if row > len(table.rows):\n"
@@ -2255,7 +2255,8 @@ for kind, other in (38, 42), (42, 38):
     of = {"file": RULES, "refused": {16}}
     broken("6.23", "%d opens no loop" % kind, (OPENS_16, OPENS_16.replace("not in (38, 42)", "!= %d" % other)), **of)
     broken("6.23", "%d is not refused" % kind, (IN_16, IN_16.replace("\n", " and kind != %d\n" % kind)), **of)
-broken("6.23", "33 to the iterator of an open loop is refused", (OPENS_16, "            if kind == 33:\n                return a in iterators\n" + OPENS_16), file=RULES)
+SETS_16 = "            if kind == 33:\n                return a in iterators\n"
+broken("6.23", "33 to the iterator of an open loop is refused", (OPENS_16, SETS_16 + OPENS_16), file=RULES)
 broken("6.23", "a plain table is not tested", (IN_16, IN_16.replace("\n", " and self.reduced\n")), file=RULES, refused={16})
 broken("6.23", "a reduced table is not tested", (IN_16, IN_16.replace("\n", " and not self.reduced\n")), file=RULES, refused={16})
 broken("6.23", "marked iterators may be shared", (IN_16, IN_16.replace("\n", " and self.declarations[a][1] == 0\n")), file=RULES, refused={16})
@@ -2275,13 +2276,8 @@ broken(
     file=RULES,
     refused={16},
 )
-broken(
-    "6.23",
-    "a row that no run reaches is not tested",
-    (IN_16, IN_16.replace("\n", " and (35, 1, 0, 0) not in self.lines[:i]\n")),
-    file=RULES,
-    refused={16},
-)
+REACHED_16 = " and not any(k == 35 and self.nodes[n] == (18, 0, 0, 0) for k, n, _, _ in self.lines[:i])\n"
+broken("6.23", "a row after an assert of false is not tested", (IN_16, IN_16.replace("\n", REACHED_16)), file=RULES, refused={16})
 broken(
     "6.2",
     "13 comes before 16",
@@ -2369,7 +2365,7 @@ FITTING = "512 * -(-len(words) // 124)"
 lent("6.21", "the writer takes the bytes of the file", (WRITE_14, WRITE_14.replace(":\n", " and len(lent) != %s:\n" % FITTING, 1)))
 lent("6.19", "the writer wants as many bytes as the file has", (WRITE_14, WRITE_14.replace("WRITTEN_BYTES", FITTING)))
 lent("6.3", "14 of the writer tells the size as its place", (WRITE_14, WRITE_14.replace("(14, 0)", "(14, len(lent))")))
-for test, what in [("< 14 or refusal[0] == 16", "the table's checks")] + [("== %d" % n, str(n)) for n in (4, *NUMBERS)]:
+for test, what in [("!= 14", "the table's checks")] + [("== %d" % n, str(n)) for n in (4, *NUMBERS)]:
     early = WRITE_14.replace("refusal is None", "(refusal is None or refusal[0] %s)" % test)
     lent("6.2", "14 of the writer comes before %s" % what, (WRITE_14, early))
 WRITE_CHECK = "def write_file(words, lent):\n    refusal = rules.check_table(words, False)\n"
@@ -2418,6 +2414,9 @@ lent("6.2", "13 of the reduction comes before 16", (REDUCE_13, EARLY_13))
 REDUCE_CHECK = "def reduce_table(words, c1, c2, lent):\n    refusal = rules.check_table(words, False)\n"
 lent("6.21", "the reduction checks by the rules of reduced tables", (REDUCE_CHECK, REDUCE_CHECK.replace("False", "True")), stops=True)
 lent("6.21", "the reduction checks no table", (REDUCE_CHECK, REDUCE_CHECK.replace("rules.check_table(words, False)", "None")), stops=True)
+for number in (4, *NUMBERS):
+    passed = "    if refusal is not None and refusal[0] == %d:\n        refusal = None\n" % number
+    lent("6.21", "the reduction takes a table that %d refuses" % number, (REDUCE_CHECK, REDUCE_CHECK + passed), stops=True)
 REDUCE_GIVEN_UP = GIVEN_UP + REDUCES
 for test, what in (
     ("True", "a refused reduction"),

@@ -30,7 +30,7 @@ ROW, OPEN, LOOP_ROW, START, END, NUMBER, BASE, COUNT, FIRST, LENGTH, SHAPE, CELL
 
 
 class Table:
-    """Lines by sort; the end row of each loop row; whether a loop has the iterator of a loop around it."""
+    """Lines by sort; the end row of each loop row."""
 
     def __init__(self, lines):
         self.lines = lines
@@ -44,7 +44,6 @@ class Table:
                 opened.append(r)
             elif line[0] == 39 and opened:
                 self.ends[opened.pop()] = r
-        self.shares = any(self.rows[o][1] == self.rows[r][1] and o < r < e for o, e in self.ends.items() for r in self.ends)
 
     def marked(self, v, sort):
         return self.declarations[v][:2] == (sort, 1)
@@ -378,10 +377,15 @@ def lines_of(machine, table, pair, lent, choices, runs, refusal, reached=None):
     return out
 
 
+def shares(table):
+    """Whether a loop has the iterator of a loop around it, which 16 refuses."""
+    return any(table.rows[o][1] == table.rows[r][1] and o < r < end for o, end in table.ends.items() for r in table.ends)
+
+
 def case(machine, lines, runs, pair=(1, 3), choices=(), lent=None, refusal=None, words=None, expect=None):
     """Adds a case: lines of the machine's own table. A run is a limit, or a limit and edits. What the rules say of it may be given."""
     table = Table(lines)
-    assert refusal is not None or not table.shares, lines
+    assert refusal is not None or not shares(table), lines
     runs = [run if isinstance(run, tuple) else (run, []) for run in runs]
     lent = CELLS[machine] if lent is None else lent
     words = [w for line in lines for w in line] if words is None else words

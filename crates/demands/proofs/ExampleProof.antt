@@ -5,7 +5,7 @@ use Prim.Native.Nat.{ℕ}
 use mathlib.Core.List.{List, [], _∷_}
 use lib.ListN.{length, length-replicate}
 use borrow.Author.Tests.{eq-eqb}
-use Rattle.lists.specs.Tab.{listed, tab, sum, all, any}
+use Rattle.lists.specs.Tab.{listed, tab, sum, all}
 use Rattle.lists.specs.First.{walk}
 use Rattle.lists.specs.Falling.{valuesBelow, valueAt}
 use Rattle.model.specs.Class.{acceptedPlaces, class, tracked, pair}
@@ -17,7 +17,7 @@ use Rattle.model.specs.Eval.{cellsLaid, rule, evalF, eval}
 use Rattle.model.specs.Step.{finished, rowRule, stepAt, step, run}
 use Rattle.model.specs.Reduce.{reducedKind, reduce}
 use Rattle.table.specs.declared.Verdict.the-variants.{Passes}
-use Rattle.table.specs.Rules.{breaks5, breaks6, rolesOf, breaks7, breaks8, breaks9, depth, breaks10, breaks11, breaks12, sharesIterator, breaks16}
+use Rattle.table.specs.Rules.{breaks5, breaks6, rolesOf, breaks7, breaks8, breaks9, depth, breaks10, breaks11, breaks12, any, sharesIterator, breaks16}
 use Rattle.table.specs.Checks.{breaks, firstRefusal, tableCheck}
 use Rattle.table.proofs.PromiseProofs.{reduction-passes}
 use Rattle.reduction.specs.Reduction.{placesCheck, reduceAnswer, reduceBuffer}

@@ -1,6 +1,6 @@
--- Lists given place by place, and what is gathered over the numbers below a bound or over a list.
+-- Lists given place by place, and what is gathered over the numbers below a bound.
 use Prim.Native.Nat.{ℕ, zero, suc, _+_}
-use mathlib.Core.Bool.{Bool, true, false, _&&_, _||_}
+use mathlib.Core.Bool.{Bool, true, _&&_}
 use mathlib.Core.List.{List, [], _∷_}
 use lib.ListN.{getD}
 
@@ -23,11 +23,6 @@ sum (suc n) f = sum n f + f n
 unfoldable pub all : ℕ → (ℕ → Bool) → Bool
 all zero f = true
 all (suc n) f = all n f && f n
-
--- the test holds of an item of the list
-unfoldable pub any : {A : Type 0} → (A → Bool) → List A → Bool
-any f [] = false
-any f (x ∷ xs) = f x || any f xs
 
 -- a list at a buffer's size, the rest zero
 abbrev pub padded : ℕ → List ℕ → List ℕ

@@ -11,11 +11,10 @@ use lib.Seq.{getD-set-same, getD-set-other}
 use lib.Dec.{leb, eqb}
 use borrow.Author.Tests.{leb-false, ne-eqb}
 use Rattle.lists.specs.If.{if_then_else_}
-use Rattle.lists.specs.Tab.{any}
 use Rattle.model.specs.Table.{Table, rowAt, Nest, nestAt, nested, matchingEnd, openAt}
 use Rattle.model.specs.Table.Nest.{opens, closes, neither}
 use Rattle.model.specs.Accepted.{misnested, mostOpen, nestBreaks}
-use Rattle.table.specs.Rules.{openedWith, opensLoop, sharesIterator}
+use Rattle.table.specs.Rules.{any, openedWith, opensLoop, sharesIterator}
 use Rattle.table.specs.Code.{nestNumber, nest, openAfter, keptRows}
 use Rattle.table.proofs.Sizes.{or-right}
 

@@ -9,7 +9,6 @@ use lib.ListN.{length}
 use lib.Dec.{leb, eqb}
 use borrow.Author.Tests.{eqb-true, eqb-false, eq-eqb, ne-eqb, le-leb}
 use Rattle.lists.specs.If.{if_then_else_}
-use Rattle.lists.specs.Tab.{any}
 use Rattle.lists.specs.First.{walk, first}
 use Rattle.lists.specs.declared.Found.{Found}
 use Rattle.lists.specs.declared.Found.the-variants.{At, Nothing}
@@ -21,7 +20,7 @@ use Rattle.model.specs.State.{MachineKind}
 use Rattle.model.proofs.Nested.{Chain, chain, from}
 use Rattle.table.specs.declared.Verdict.{Verdict}
 use Rattle.table.specs.declared.Verdict.the-variants.{Passes, Refused}
-use Rattle.table.specs.Rules.{openedWith, opensLoop, sharesIterator, breaks16, ofRow}
+use Rattle.table.specs.Rules.{any, openedWith, opensLoop, sharesIterator, breaks16, ofRow}
 use Rattle.table.specs.Checks.{breaks, firstRefusal, refusedAtLine, order, checkedBy, tableCheck}
 use Rattle.table.specs.Iterators.{Around, Shares, PassingSharesNone, FirstShares, SixteenAtInner, before16, SharingRefused, ApartPasses}
 use Rattle.table.specs.Iterators.{AllDiffer, iteratorsOf, OpenDiffer}

@@ -9,7 +9,6 @@ use lib.ListN.{length}
 use lib.Dec.{ltb, leb, eqb}
 use Rattle.lists.specs.declared.Found.the-variants.{Nothing}
 use Rattle.lists.specs.If.{if_then_else_}
-use Rattle.lists.specs.Tab.{any}
 use Rattle.lists.specs.First.{first}
 use Rattle.lists.specs.Falling.{valueAt}
 use Rattle.lists.proofs.FirstLaws.{first-nowhere}
@@ -26,7 +25,7 @@ use Rattle.model.proofs.ReduceLaws.{same-declaration, same-isNode, same-isRow, 
 use Rattle.model.proofs.ReducedAccepted.{R, kind-known, nested-same, node-suit, row-suit, rowThere-same, rowTyped-same, same-roles, same-rowRoles}
 use Rattle.model.proofs.ReducedAccepted.{open-same, there-same, typed-same}
 use Rattle.table.specs.Rules.{breaks10, breaks11, breaks12, breaks16, breaks5, breaks6, breaks7, breaks8, breaks9, depth, depthBy, kindAt, mostDepth}
-use Rattle.table.specs.Rules.{ofNodeOrRow, opensLoop, rolesOf, sharesIterator, sortNumber}
+use Rattle.table.specs.Rules.{any, ofNodeOrRow, opensLoop, rolesOf, sharesIterator, sortNumber}
 use Rattle.table.specs.Checks.{breaks}
 use Rattle.table.proofs.Sizes.{or-right}
 use Rattle.table.proofs.Passing.{Passing, Unbroken, accepted, total, unbroken}

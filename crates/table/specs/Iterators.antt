@@ -4,11 +4,11 @@ use Prim.Native.Nat.{ℕ, _+_, _<_, _≤_}
 use mathlib.Core.Bool.{false}
 use mathlib.Core.List.{List, [], _∷_, map}
 use lib.Dec.{eqb}
-use Rattle.lists.specs.Tab.{any}
 use Rattle.model.specs.Table.{Table, tableOf, rowAt, nestAt, matchingEnd, openAt}
 use Rattle.model.specs.Table.Nest.{opens}
 use Rattle.model.specs.State.{MachineKind}
 use Rattle.table.specs.declared.Verdict.the-variants.{Passes, Refused}
+use Rattle.table.specs.Rules.{any}
 use Rattle.table.specs.Checks.{checkedBy, tableCheck}
 
 -- the loop of row o is around row r: r stands after row o, and not past the row that closes its loop (rules 1.14, 7.3)

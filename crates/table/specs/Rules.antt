@@ -2,9 +2,9 @@
 -- What demand 3 needs of them is said in the model (specs/Accepted), and is used from there.
 use Prim.Native.Nat.{ℕ, _+_, _-_, max}
 use mathlib.Core.Bool.{Bool, true, false, not, _&&_, _||_}
+use mathlib.Core.List.{List, [], _∷_}
 use lib.Dec.{ltb, leb, eqb}
 use Rattle.lists.specs.If.{if_then_else_}
-use Rattle.lists.specs.Tab.{any}
 use Rattle.lists.specs.Falling.{valueAt}
 use Rattle.model.specs.Table.{Table, Line, lineAt, isDeclaration, isNode, isRow, nodeAt, rowAt, Role, Roles, declarationRoles, nodeRoles, rowRoles}
 use Rattle.model.specs.Table.{nodeKind, rowKind, Nest, nestAt, openAt}
@@ -104,6 +104,11 @@ breaks11 t i = ofRow (misnested t) t i
 -- 12 (rules 1.16, 1.17, 6.17)
 unfoldable pub breaks12 : MachineKind → Table → ℕ → Bool
 breaks12 m t i = ofNodeOrRow (λ n. not (nodeSuitsMark m t n)) (λ r. not (rowSuitsMark m t r)) t i
+
+-- the test holds of an item of the list
+unfoldable pub any : (ℕ → Bool) → List ℕ → Bool
+any f [] = false
+any f (x ∷ xs) = f x || any f xs
 
 -- the loop of row o was opened since row b, with the iterator v
 abbrev pub openedWith : Table → ℕ → ℕ → ℕ → Bool

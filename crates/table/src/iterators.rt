@@ -7,10 +7,9 @@ use lists::word_or_zero;
 ghost use mathlib.Core.Path.{_≡_};
 ghost use Prim.Native.Nat.{_/_, _≤_};
 ghost use lib.ListN.{length};
-ghost use Rattle.lists.specs.Tab.{any};
 ghost use Rattle.lists.specs.First.{first};
 ghost use Rattle.model.specs.Table.{rowAt};
-ghost use Rattle.table.specs.Rules.{openedWith, breaks16};
+ghost use Rattle.table.specs.Rules.{any, openedWith, breaks16};
 ghost use Rattle.table.specs.Code.{tableBy, keptRows, InSorts, WellNested};
 
 const OPENS: u32 = 1;

@@ -1,11 +1,10 @@
 -- `iterators::opened_with` meets its contract: what is sought among all open loops is what is sought among those left.
 -- Assumes nothing.
 use borrow.Author.Needs.{needs}
-use Prim.Native.Nat.{_≤_, _-_}
+use Prim.Native.Nat.{_<_, _≤_}
 use native.Mathlib.Omega.{arith}
 use mathlib.Core.Path.{_≡_, refl, sym, _∙_}
-use Rattle.lists.specs.Tab.{any}
-use Rattle.table.specs.Rules.{openedWith}
+use Rattle.table.specs.Rules.{any, openedWith}
 use Rattle.table.specs.Code.{tableBy, keptRows}
 use Rattle.table.proofs.IteratorLaws.{kept-hit, kept-miss, kept-none}
 use Rattle.table.proofs.iterators.opened_with.Statement.{statement}
@@ -23,17 +22,17 @@ abbrev μ-loop : tie.MeasureT-loop
 returns : tie.Need-returns Inv-loop μ-loop
 returns c =
     let at-head = c .before .before .before .before .loop in
-    let some = c .before .before .before .loop-test .taken in
+    let some : 0 < at-head .left = omega arith in
     sym (at-head .inv .1 ∙ kept-hit _ _ _ some (rw (sym (c .before .iterator-of .ensures)) (c .if1 .taken)))
 
 loop-again : tie.Need-loop-again Inv-loop μ-loop
 loop-again c =
     let at-head = c .before .before .before .before .loop in
-    let some = c .before .before .before .loop-test .taken in
+    let some : 0 < at-head .left = omega arith in
     (search needs, at-head .inv .1 ∙ kept-miss _ _ _ some (rw (sym (c .before .iterator-of .ensures)) (c .if1 .left)))
 
 returns-2 : tie.Need-returns-2 Inv-loop μ-loop
-returns-2 c = sym (c .before .loop .inv .1 ∙ kept-none _ _ _ (c .loop-test .left))
+returns-2 c = let none : c .before .loop .left ≤ 0 = omega arith in sym (c .before .loop .inv .1 ∙ kept-none _ _ _ none)
 
 pub opened-with-spec : {M : Type 1} → statement M
 opened-with-spec =

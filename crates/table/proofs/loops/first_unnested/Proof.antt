@@ -51,7 +51,8 @@ loop-again c =
       search needs,
       rw (c .open-after .ensures .0, nested .ensures, at-head .inv .1) (sym (open-more t (at-head .row))),
       omega (arith, c .open-after .ensures .1),
-      at-head .inv .3 ∙ row-miss (misnested t) t (start .pre) (at-head .row) inside (breaks ∙ sym (c .before .before .row-breaks .ensures) ∙ c .before .if2 .left),
+      at-head .inv .3
+          ∙ row-miss (misnested t) t (start .pre) (at-head .row) inside (breaks ∙ sym (c .before .before .row-breaks .ensures) ∙ c .before .if2 .left),
     )
 
 returns-2 : tie.Need-returns-2 Inv-loop μ-loop
