@@ -1,29 +1,27 @@
 -- One iterator, one loop at a time.
 -- Assumes nothing.
-use mathlib.Core.Path.{_≡_, refl, sym, ap, _∙_, subst}
-use Prim.Native.Nat.{ℕ, zero, suc, _*_, _%_, _^_, _≤_}
+use mathlib.Core.Path.{_≡_, sym, ap, _∙_, subst}
+use Prim.Native.Nat.{ℕ, _*_, _%_, _^_, _≤_}
 use native.Mathlib.Omega.{arith}
-use mathlib.Core.List.{List, [], map}
+use mathlib.Core.List.{List}
 use lib.ListN.{length, take, drop, replicate, length-replicate}
 use borrow.Author.Tests.{le-ltb}
 use Rattle.lists.specs.Tab.{padded}
 use Rattle.lists.proofs.TabLaws.{take-padded}
-use Rattle.table.specs.declared.Verdict.{Verdict}
-use Rattle.table.specs.declared.Verdict.the-variants.{Passes, Refused}
+use Rattle.table.specs.declared.Verdict.the-variants.{Refused}
 use Rattle.table.specs.Checks.{tableCheck}
 use Rattle.table.specs.Iterators.{AllDiffer, iteratorsOf}
 use Rattle.table.proofs.Passing.{passing, accepted}
 use Rattle.table.proofs.IteratorProofs.{apart-passes, open-differ, passing-shares-none, sharing-refused, sixteen-at-inner}
 use Rattle.reduction.specs.Reduction.{reduceAnswer}
 use Rattle.file.specs.declared.Read.{Read}
-use Rattle.file.specs.declared.Read.the-variants.{Lines}
 use Rattle.file.specs.Layout.{linesIn, fileBytes}
-use Rattle.file.specs.Reading.{readAnswer, readBuffer}
+use Rattle.file.specs.Reading.{readBuffer}
 use Rattle.file.specs.Writing.{writeCheck}
 use Rattle.file.specs.Statements.{AllBelow}
 use Rattle.file.proofs.ReadBack.{read-back}
-use Rattle.model.specs.Table.{Table, tableOf, openAt}
-use Rattle.model.specs.State.{MachineKind, State}
+use Rattle.model.specs.Table.{tableOf}
+use Rattle.model.specs.State.{MachineKind}
 use Rattle.model.specs.State.MachineKind.{plain}
 use Rattle.model.specs.Accepted.{CanHave}
 use Rattle.model.proofs.EmptyClassLaws.{after-can}
@@ -76,10 +74,10 @@ module _ (t : List ℕ) (number place : ℕ) (e : tableCheck plain t ≡ Refused
 
 pub iterators : Iterators
 iterators = record {
-  refused = sixteen-at-inner;
-  always = sharing-refused;
-  others = apart-passes;
+  named = sixteen-at-inner;
+  sharing = sharing-refused;
   passing = passing-shares-none;
+  apart = apart-passes;
   oneAtATime = one-loop-at-a-time;
   running = runs-refuse;
   plainTables = plain-refused;

@@ -51,12 +51,13 @@ pub record PlainRefused (t : List ℕ) (number place : ℕ) : Type 0 where
       → pairSaid input ≡ notRunning number place
 
 pub record Iterators : Type 0 where
-  -- 16 refuses a table for a loop with the iterator of a loop around it, at the line of the inner one, and then always; none that passes has such a
-  -- loop, and one that has none passes, where the other checks do
-  pub refused : SixteenAtInner
-  pub always : SharingRefused
+  -- a table that 16 refuses has a loop with the iterator of a loop around it, and the place is the line of the first such, the inner one
+  pub named : SixteenAtInner
+  -- where the checks before it pass, 16 refuses each table that has such a loop, and no other
+  pub sharing : SharingRefused
+  pub apart : ApartPasses
+  -- no table that passes has one, and no state of its runs has two loops open with one iterator
   pub passing : PassingSharesNone
-  pub others : ApartPasses
   pub oneAtATime : OneLoopAtATime
   -- such tables, as any that is refused, are not run, and not written or reduced
   pub running : (m : MachineKind) (t : List ℕ) (number place : ℕ) → tableCheck m t ≡ Refused number place → RunsRefuse m t number place

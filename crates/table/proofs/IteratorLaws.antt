@@ -3,24 +3,24 @@
 use Prim.Native.Nat.{ℕ, zero, suc, _+_, _-_, _<_, _≤_}
 use native.Mathlib.Omega.{arith}
 use native.Mathlib.Numerals.{add-one}
-use mathlib.Core.Path.{_≡_, refl, sym, ap, _∙_, subst}
-use mathlib.Core.Bool.{Bool, true, false, _&&_, _||_, false≢true}
-use mathlib.Core.List.{List, [], _∷_}
+use mathlib.Core.Path.{_≡_, refl, sym, ap, _∙_}
+use mathlib.Core.Bool.{Bool, true, false, _&&_}
+use mathlib.Core.List.{List, _∷_}
 use lib.ListN.{length, getD, set}
 use lib.Seq.{getD-set-same, getD-set-other}
-use lib.Dec.{leb, eqb}
-use borrow.Author.Tests.{leb-false, ne-eqb}
+use lib.Dec.{eqb}
+use borrow.Author.Tests.{ne-eqb}
 use Rattle.lists.specs.If.{if_then_else_}
-use Rattle.model.specs.Table.{Table, rowAt, Nest, nestAt, nested, matchingEnd, openAt}
+use Rattle.model.specs.Table.{Table, rowAt, Nest, nestAt, nested, openAt}
 use Rattle.model.specs.Table.Nest.{opens, closes, neither}
-use Rattle.model.specs.Accepted.{misnested, mostOpen, nestBreaks}
+use Rattle.model.specs.Accepted.{misnested, mostOpen}
 use Rattle.table.specs.Rules.{any, openedWith, opensLoop, sharesIterator}
 use Rattle.table.specs.Code.{nestNumber, nest, openAfter, keptRows}
-use Rattle.table.proofs.Sizes.{or-right}
+use Rattle.table.proofs.LoopLaws.{few-open}
 
 -- ---- the rows kept
 
-pub kept-length : (b : List ℕ) (n : ℕ) → length (keptRows b n) ≡ n
+kept-length : (b : List ℕ) (n : ℕ) → length (keptRows b n) ≡ n
 unfolding keptRows
 kept-length b zero = refl
 kept-length b (suc n) = ap suc (kept-length b n)
@@ -70,23 +70,19 @@ few-after q n most {m} h e l = go (eqb q 2) (e ∙ rw (ne-eqb q 1 h))
 -- ---- a row, with the rows of the loops open before it kept
 
 module _ (t : Table) (r q : ℕ) (e : q ≡ nest (rowAt t r .kind)) where
-  opens-loop : (n : Nest) → nestNumber n ≡ 1 → n ≡ opens
-  opens-loop opens h = refl
-  opens-loop closes h = absurd (omega arith)
-  opens-loop neither h = absurd (omega arith)
+  number-opens : (n : Nest) → nestNumber n ≡ 1 → n ≡ opens
+  number-opens opens h = refl
+  number-opens closes h = absurd (omega arith)
+  number-opens neither h = absurd (omega arith)
 
   pub at-opening : q ≡ 1 → nestAt t r ≡ opens
   unfolding nest
-  at-opening h = opens-loop (nestAt t r) (sym e ∙ h)
+  at-opening h = number-opens (nestAt t r) (sym e ∙ h)
 
   module _ (b : List ℕ) (n : ℕ) (k : keptRows b n ≡ openAt t r) where
     -- 11 leaves room for one more
     pub few-kept : misnested t r ≡ false → q ≡ 1 → n < mostOpen
-    unfolding misnested
-    few-kept h o =
-        let within = subst (λ (m : Nest). nestBreaks m (openAt t r) (leb (t .rows) (matchingEnd t r)) ≡ false) (at-opening o) h in
-        let few : length (openAt t r) < mostOpen = leb-false mostOpen (length (openAt t r)) (or-right (leb (t .rows) (matchingEnd t r)) _ within) in
-        omega (arith, few, sym (kept-length b n) ∙ ap length k)
+    few-kept h o = omega (arith, few-open t r h (at-opening o), sym (kept-length b n) ∙ ap length k)
 
     -- whether it breaks 16
     pub shares-by : q ≡ 1 → sharesIterator t 0 r ≡ any (openedWith t 0 (rowAt t r .a)) (keptRows b n)

@@ -3,8 +3,8 @@
 use Prim.Native.Nat.{ℕ, zero, suc, _+_, _-_, _/_, _%_, _<_, _≤_}
 use native.Mathlib.Omega.{arith}
 use mathlib.Core.Path.{_≡_, refl, sym, ap, _∙_, subst}
-use mathlib.Core.Bool.{Bool, true, false, _&&_, _||_, false≢true, true≢false}
-use mathlib.Core.List.{List, [], _∷_, _++_, map}
+use mathlib.Core.Bool.{Bool, true, false, _||_, false≢true, true≢false}
+use mathlib.Core.List.{List, [], _∷_, _++_}
 use lib.ListN.{length}
 use lib.Dec.{leb, eqb}
 use borrow.Author.Tests.{eqb-true, eqb-false, eq-eqb, ne-eqb, le-leb}
@@ -13,12 +13,10 @@ use Rattle.lists.specs.First.{walk, first}
 use Rattle.lists.specs.declared.Found.{Found}
 use Rattle.lists.specs.declared.Found.the-variants.{At, Nothing}
 use Rattle.lists.proofs.BoolLaws.{and-left, and-right}
-use Rattle.lists.proofs.FirstLaws.{first-found, first-below}
 use Rattle.model.specs.Table.{Table, tableOf, rowAt, Nest, nestAt, nested, scanned, matchingEnd, openAt}
 use Rattle.model.specs.Table.Nest.{opens, closes, neither}
 use Rattle.model.specs.State.{MachineKind}
 use Rattle.model.proofs.Nested.{Chain, chain, from}
-use Rattle.table.specs.declared.Verdict.{Verdict}
 use Rattle.table.specs.declared.Verdict.the-variants.{Passes, Refused}
 use Rattle.table.specs.Rules.{any, openedWith, opensLoop, sharesIterator, breaks16, ofRow}
 use Rattle.table.specs.Checks.{breaks, firstRefusal, refusedAtLine, order, checkedBy, tableCheck}
@@ -26,13 +24,13 @@ use Rattle.table.specs.Iterators.{Around, Shares, PassingSharesNone, Fir
 use Rattle.table.specs.Iterators.{AllDiffer, iteratorsOf, OpenDiffer}
 use Rattle.table.specs.Code.{InSorts}
 use Rattle.table.proofs.Sizes.{or-left, or-right}
-use Rattle.table.proofs.LoopLaws.{row-found, rows-first, rows-none}
+use Rattle.table.proofs.LoopLaws.{no-row, row-found, rows-none}
 use Rattle.table.proofs.CheckLaws.{laid, none as none-left, pass, passed, stop, then-more}
 use Rattle.table.proofs.Passing.{passing, row-apart}
 
 -- ---- a test of a list
 
-pub record Held (f : ℕ → Bool) (xs : List ℕ) : Type 0 where
+record Held (f : ℕ → Bool) (xs : List ℕ) : Type 0 where
   before : List ℕ
   item : ℕ
   after : List ℕ
@@ -159,19 +157,19 @@ module _ (t : Table) where
   shares-found r l e =
       let H = any-held (openedWith t 0 (rowAt t r .a)) (openAt t r) (and-right (opensLoop (nestAt t r)) _ e) in
       (H .item, record {
-        outer = open-around r (H .item) (H .before) (H .after) l (H .is);
-        inner = opens-loop (nestAt t r) (and-left (opensLoop (nestAt t r)) _ e);
+        around = open-around r (H .item) (H .before) (H .after) l (H .is);
+        opening = opens-loop (nestAt t r) (and-left (opensLoop (nestAt t r)) _ e);
         iterator = sym (eqb-true (rowAt t (H .item) .a) (rowAt t r .a) (and-right (leb 0 (H .item)) _ (H .holds)));
       })
 
   shares-holds : (o r : ℕ) → r ≤ t .rows → Shares t o r → sharesIterator t 0 r ≡ true
   unfolding sharesIterator
   shares-holds o r l S =
-      let A = S .outer in
+      let A = S .around in
       let k = r - suc o in
       let at : suc o + k ≡ r = omega (arith, A .after) in
       let I : IsOpen o r = subst (IsOpen o) at (stays-open o (A .opened) k (omega arith) (omega (arith, A .within))) in
-      rw (S .inner, I .is)
+      rw (S .opening, I .is)
       (any-at (openedWith t 0 (rowAt t r .a)) (I .inside) o (openAt t o)
           (rw (le-leb 0 o (omega arith), eq-eqb (rowAt t o .a) (rowAt t r .a) (sym (S .iterator)))))
 
@@ -294,12 +292,16 @@ module _ (m : MachineKind) (w : List ℕ) (p : checkedBy before16 m w ≡ Passes
 
 pub sharing-refused : SharingRefused
 unfolding breaks breaks16 tableOf
-sharing-refused m w p line F =
-    let L = left m w p in
-    let at = rows-first (sharesIterator (tableOf w) 0) (tableOf w) (L .laid-out) (F .inner) (F .there)
-        (λ r l. apart m w p r (omega (arith, F .there)) (λ o S. F .first o r l S))
-        (shares-holds (tableOf w) (F .outer) (F .inner) (omega (arith, F .there)) (F .shares)) in
-    L .rest ∙ stop _ 16 [] line (at ∙ ap At (sym (F .place)))
+sharing-refused m w p o r l S = go (find 16) refl
+  where
+    find : ℕ → Found
+    find k = first (breaks k m (tableOf w)) 0 (length w / 4)
+
+    go : (f : Found) → find 16 ≡ f → (line : ℕ) × (tableCheck m w ≡ Refused 16 line)
+    go (At line) e = (line, left m w p .rest ∙ stop find 16 [] line e)
+    go Nothing e =
+        let none = no-row (sharesIterator (tableOf w) 0) (tableOf w) (left m w p .laid-out) e r l in
+        absurd (true≢false (sym (shares-holds (tableOf w) o r (omega arith) S) ∙ none))
 
 pub apart-passes : ApartPasses
 unfolding breaks breaks16 tableOf

@@ -5,20 +5,21 @@ use native.Mathlib.Omega.{arith}
 use native.Mathlib.Nat.{sub-zero}
 use native.Mathlib.Numerals.{add-one}
 use native.Mathlib.Decide.{decLe}
-use mathlib.Core.Path.{_≡_, refl, sym, ap, _∙_}
+use mathlib.Core.Path.{_≡_, refl, sym, ap, _∙_, subst}
 use mathlib.Core.Bool.{Bool, true, false, _&&_, false≢true, true≢false}
 use mathlib.Core.List.{List, [], _∷_}
 use lib.ListN.{length}
 use lib.Dec.{eqb, leb}
-use borrow.Author.Tests.{ne-eqb}
+use borrow.Author.Tests.{ne-eqb, leb-false}
 use Rattle.lists.specs.declared.Found.the-variants.{At, Nothing}
 use Rattle.lists.specs.First.{walk, first}
 use Rattle.lists.proofs.FirstLaws.{walk-more, walk-done, first-below, first-found, first-hit, first-miss, first-none, first-nowhere-at}
 use Rattle.model.specs.Table.{Table, rowAt, Nest, nestAt, nested, scanned, matchingEnd, openAt}
 use Rattle.model.specs.Table.Nest.{opens, closes, neither}
-use Rattle.model.specs.Accepted.{misnested, nestBreaks, noneOpen}
+use Rattle.model.specs.Accepted.{misnested, mostOpen, nestBreaks, noneOpen}
 use Rattle.table.specs.Rules.{ofRow}
 use Rattle.table.specs.Code.{nestNumber, nest, openAfter, scanFrom, unnested, firstRow, InSorts}
+use Rattle.table.proofs.Sizes.{or-right}
 use Rattle.table.proofs.CodeLaws.{at-row, before-rows}
 
 open-nested : (n : Nest) (r : ℕ) (os : List ℕ) → length (nested n r os) ≡ openAfter (nestNumber n) (length os)
@@ -89,6 +90,14 @@ pub row-by : (t : Table) (r q n : ℕ) → q ≡ nest (rowAt t r .kind) → n �
 unfolding nest misnested
 row-by t r q n e h = rw (e, h) (unnested-by (nestAt t r) (openAt t r) (leb (t .rows) (matchingEnd t r)))
 
+-- what 11 leaves: room for one more loop inside those open at a row that opens one
+pub few-open : (t : Table) (r : ℕ) → misnested t r ≡ false → nestAt t r ≡ opens → length (openAt t r) < mostOpen
+unfolding misnested
+few-open t r h e =
+    let unclosed = leb (t .rows) (matchingEnd t r) in
+    leb-false mostOpen (length (openAt t r))
+    (or-right unclosed (leb mostOpen (length (openAt t r))) (subst (λ (n : Nest). nestBreaks n (openAt t r) unclosed ≡ false) e h))
+
 -- ---- the loop over the rows: what is sought from line 0 on is what is sought from a row on
 
 module _ (g : ℕ → Bool) (t : Table) (laid : InSorts t) where
@@ -114,14 +123,10 @@ module _ (g : ℕ → Bool) (t : Table) (laid : InSorts t) where
   pub row-none : (r : ℕ) → t .rows ≤ r → firstRow g t r ≡ Nothing
   row-none r l = first-none (ofRow g t) (t .decls + t .nodes + r) (length (t .words) / 4) (omega (arith, laid .whole))
 
-  -- what is sought, by the rows: past those that do not break it, at the first that does, nowhere
+  -- what is sought, past rows that do not break it, and past all
   rows-past : (k : ℕ) → k ≤ t .rows → ((r : ℕ) → r < k → g r ≡ false) → first (ofRow g t) 0 (length (t .words) / 4) ≡ firstRow g t k
   rows-past zero l h = rows-start
   rows-past (suc k) l h = rows-past k (omega arith) (λ r b. h r (omega arith)) ∙ row-miss k l (h k (omega arith)) ∙ ap (firstRow g t) (add-one k)
-
-  pub rows-first : (k : ℕ) → k < t .rows → ((r : ℕ) → r < k → g r ≡ false) → g k ≡ true
-      → first (ofRow g t) 0 (length (t .words) / 4) ≡ At (t .decls + t .nodes + k)
-  rows-first k l h e = rows-past k (omega arith) h ∙ row-hit k l e
 
   pub rows-none : ((r : ℕ) → r < t .rows → g r ≡ false) → first (ofRow g t) 0 (length (t .words) / 4) ≡ Nothing
   rows-none h = rows-past (t .rows) (omega arith) h ∙ row-none (t .rows) (omega arith)

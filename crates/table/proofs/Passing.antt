@@ -4,26 +4,28 @@ use Prim.Native.Nat.{ℕ, _+_, _-_, _/_, _%_, _<_, _≤_}
 use native.Mathlib.Omega.{arith}
 use mathlib.Core.Path.{_≡_, refl, ap, subst}
 use mathlib.Core.Bool.{Bool, true, false, not}
-use mathlib.Core.List.{List, _∷_}
+use mathlib.Core.List.{List}
 use lib.ListN.{length}
-use lib.Dec.{ltb, leb, eqb}
-use borrow.Author.Tests.{eqb-true, leb-false, ltb-false}
+use lib.Dec.{ltb, eqb}
+use borrow.Author.Tests.{eqb-true, ltb-false}
 use Rattle.lists.specs.declared.Found.{Found}
-use Rattle.lists.specs.declared.Found.the-variants.{At, Nothing}
+use Rattle.lists.specs.declared.Found.the-variants.{Nothing}
 use Rattle.table.specs.declared.Verdict.{Verdict}
 use Rattle.table.specs.declared.Verdict.the-variants.{Passes, Refused}
 use Rattle.lists.specs.If.{if_then_else_}
 use Rattle.lists.specs.First.{first}
 use Rattle.lists.proofs.TabLaws.{all-true}
 use Rattle.lists.proofs.FirstLaws.{first-nowhere-at}
-use Rattle.model.specs.Table.{Nest, Table, lineAt, lineCount, matchingEnd, nestAt, openAt, tableOf}
+use Rattle.model.specs.Table.{Table, lineAt, lineCount, nestAt, openAt, tableOf}
 use Rattle.model.specs.Table.Nest.{opens}
 use Rattle.model.specs.State.{MachineKind}
 use Rattle.model.specs.Step.{node}
-use Rattle.model.specs.Accepted.{Accepted, known, misnested, mostOpen, nestBreaks, nodeSuitsMark, nodeThere, nodeTyped, rowSuitsMark, rowThere, rowTyped}
+use Rattle.model.specs.Accepted.{Accepted, known, misnested, mostOpen, nodeSuitsMark, nodeThere, nodeTyped, rowSuitsMark, rowThere, rowTyped}
 use Rattle.table.specs.Rules.{breaks10, breaks11, breaks12, breaks16, breaks8, breaks9, depth, mostDepth, ofNodeOrRow, sharesIterator}
-use Rattle.table.specs.Checks.{andThen, breaks, firstRefusal, order, refusedAtLine, sizeCheck, tableCheck}
-use Rattle.table.proofs.Sizes.{all-lines, line-known, no-declaration, no-node-at, node-at, not-false, or-right}
+use Rattle.table.specs.Checks.{andThen, breaks, firstRefusal, order, sizeCheck, tableCheck}
+use Rattle.table.proofs.Sizes.{all-lines, line-known, no-declaration, no-node-at, node-at, not-false}
+use Rattle.table.proofs.LoopLaws.{few-open as few-open-at}
+use Rattle.table.proofs.CheckLaws.{passed}
 
 -- both parts of a check pass
 pub both-pass : (a b : Verdict) → andThen a b ≡ Passes → (a ≡ Passes) × (b ≡ Passes)
@@ -54,14 +56,6 @@ pub record Passing (m : MachineKind) (w : List ℕ) : Type 0 where
   pub none12 : Unbroken 12 m w
   pub none16 : Unbroken 16 m w
 
-one-passes : (f : ℕ → Found) (k : ℕ) (ks : List ℕ) → firstRefusal f (k ∷ ks) ≡ Passes → (f k ≡ Nothing) × (firstRefusal f ks ≡ Passes)
-unfolding firstRefusal
-one-passes f k ks e = go (f k) refl e
-  where
-    go : (o : Found) → f k ≡ o → refusedAtLine o k (firstRefusal f ks) ≡ Passes → (f k ≡ Nothing) × (firstRefusal f ks ≡ Passes)
-    go (At i) u h = absurd (let z : _≡_ {A = ℕ} 0 1 = cc in omega arith)
-    go Nothing u h = (u, h)
-
 module _ (m : MachineKind) (w : List ℕ) where
   abbrev find : ℕ → Found
   find k = first (breaks k m (tableOf w)) 0 (length w / 4)
@@ -72,15 +66,15 @@ module _ (m : MachineKind) (w : List ℕ) where
     where
       go : (b : Bool) → eqb (length w % 4) 0 ≡ b → (if b then firstRefusal find order else Refused 4 0) ≡ Passes → Passing m w
       go true u h =
-          let p5 = one-passes find 5 _ h in
-          let p6 = one-passes find 6 _ (p5 .1) in
-          let p7 = one-passes find 7 _ (p6 .1) in
-          let p8 = one-passes find 8 _ (p7 .1) in
-          let p9 = one-passes find 9 _ (p8 .1) in
-          let p10 = one-passes find 10 _ (p9 .1) in
-          let p11 = one-passes find 11 _ (p10 .1) in
-          let p12 = one-passes find 12 _ (p11 .1) in
-          let p16 = one-passes find 16 _ (p12 .1) in
+          let p5 = passed find 5 _ h in
+          let p6 = passed find 6 _ (p5 .1) in
+          let p7 = passed find 7 _ (p6 .1) in
+          let p8 = passed find 8 _ (p7 .1) in
+          let p9 = passed find 9 _ (p8 .1) in
+          let p10 = passed find 10 _ (p9 .1) in
+          let p11 = passed find 11 _ (p10 .1) in
+          let p12 = passed find 12 _ (p11 .1) in
+          let p16 = passed find 16 _ (p12 .1) in
           record {
             whole = eqb-true (length w % 4) 0 u;
             none5 = p5 .0;
@@ -158,10 +152,7 @@ module _ (m : MachineKind) (w : List ℕ) where
 
     -- 11's bound of eight (rule 1.15), for those above who count on it
     pub few-open : (r : ℕ) → r < t .rows → nestAt t r ≡ opens → length (openAt t r) < mostOpen
-    unfolding misnested
-    few-open r h e =
-        leb-false mostOpen (length (openAt t r)) (or-right (leb (t .rows) (matchingEnd t r)) (leb mostOpen (length (openAt t r)))
-        (subst (λ (n : Nest). nestBreaks n (openAt t r) (leb (t .rows) (matchingEnd t r)) ≡ false) e (row-nested r h)))
+    few-open r h e = few-open-at t r (row-nested r h) e
 
     -- 16, for those above who count on it
     pub row-apart : (r : ℕ) → r < t .rows → sharesIterator t 0 r ≡ false

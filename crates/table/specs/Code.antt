@@ -1,4 +1,4 @@
--- What the code keeps in place of the model's words: counts, numbers for the cases of a kind, types and depths of nodes in a buffer.
+-- What the code keeps in place of the model's words: counts, numbers for the cases of a kind, types and depths of nodes and the rows of open loops in a buffer.
 use mathlib.Core.Path.{_≡_}
 use Prim.Native.Nat.{ℕ, zero, suc, _+_, _-_, _*_, _/_, _<_, _≤_}
 use mathlib.Core.Bool.{Bool, true, false, not, _&&_, _||_}

@@ -19,8 +19,8 @@ pub record Around (t : Table) (o r : ℕ) : Type 0 where
 
 -- row r opens a loop inside the loop of row o, with its iterator (rule 1.18)
 pub record Shares (t : Table) (o r : ℕ) : Type 0 where
-  pub outer : Around t o r
-  pub inner : nestAt t r ≡ opens
+  pub around : Around t o r
+  pub opening : nestAt t r ≡ opens
   pub iterator : rowAt t r .a ≡ rowAt t o .a
 
 -- no table that passes has such a row
@@ -39,15 +39,17 @@ pub record FirstShares (t : Table) (line : ℕ) : Type 0 where
 abbrev pub SixteenAtInner : Type 0
 SixteenAtInner = (m : MachineKind) (w : List ℕ) (line : ℕ) → tableCheck m w ≡ Refused 16 line → FirstShares (tableOf w) line
 
--- and back, of a table that the checks before 16 pass: with such a row it is refused with 16, at that line; with none it passes, so that a later loop
--- may have the iterator again
+-- the checks of lines that come before 16
 abbrev pub before16 : List ℕ
 before16 = 5 ∷ 6 ∷ 7 ∷ 8 ∷ 9 ∷ 10 ∷ 11 ∷ 12 ∷ []
 
+-- and back, of a table that 4 and these pass: where it has such a row it is refused with 16
 abbrev pub SharingRefused : Type 0
 SharingRefused =
-    (m : MachineKind) (w : List ℕ) → checkedBy before16 m w ≡ Passes → (line : ℕ) → FirstShares (tableOf w) line → tableCheck m w ≡ Refused 16 line
+    (m : MachineKind) (w : List ℕ) → checkedBy before16 m w ≡ Passes → (o r : ℕ) → r < tableOf w .rows → Shares (tableOf w) o r
+    → (line : ℕ) × (tableCheck m w ≡ Refused 16 line)
 
+-- and where it has none it passes: a later loop may have the iterator again
 abbrev pub ApartPasses : Type 0
 ApartPasses =
     (m : MachineKind) (w : List ℕ) → checkedBy before16 m w ≡ Passes → ((o r : ℕ) → r < tableOf w .rows → Shares (tableOf w) o r → ⊥)
