@@ -37,7 +37,7 @@ use Rattle.demands.proofs.NeighboursProof.{start-can}
 one-loop-at-a-time : OneLoopAtATime
 one-loop-at-a-time m ps t pass s start choices n r after =
     let C : CanHave ps m (tableOf t) r =
-        after-can ps m (tableOf t) (accepted m t (passing m t pass)) n s r (start-can m ps (tableOf t) s start .can) choices after in
+    after-can ps m (tableOf t) (accepted m t (passing m t pass)) n s r (start-can m ps (tableOf t) s start .can) choices after in
     subst (λ (rows : List ℕ). AllDiffer (iteratorsOf (tableOf t) rows)) (sym (C .loops)) (open-differ m t pass (r .here .row) (C .row))
 
 runs-refuse : (m : MachineKind) (t : List ℕ) (number place : ℕ) → tableCheck m t ≡ Refused number place → RunsRefuse m t number place
@@ -54,7 +54,7 @@ module _ (t : List ℕ) (number place : ℕ) (e : tableCheck plain t ≡ Refused
       let size : length zeros ≡ 5248 = length-replicate {A = ℕ} 5248 0 in
       let b = read-back t below whole small zeros size in
       let words : take (4 * linesIn t) (padded 5248 t) ≡ t =
-          subst (λ (n : ℕ). take n (padded 5248 t) ≡ t) {x = length t} {y = 4 * linesIn t} (omega arith) (take-padded t 5248 small) in
+      subst (λ (n : ℕ). take n (padded 5248 t) ≡ t) {x = length t} {y = 4 * linesIn t} (omega arith) (take-padded t 5248 small) in
       ap (λ (r : Read). readSaid ps limit r (readBuffer (fileBytes t) zeros)) (rw size at (b .0))
       ∙ rw (b .1, words, e)
 

@@ -155,12 +155,14 @@ module _ (t : Table) where
   shares-found : (r : ℕ) → r ≤ t .rows → sharesIterator t 0 r ≡ true → (o : ℕ) × Shares t o r
   unfolding sharesIterator
   shares-found r l e =
-      let H = any-held (openedWith t 0 (rowAt t r .a)) (openAt t r) (and-right (opensLoop (nestAt t r)) _ e) in
-      (H .item, record {
-        around = open-around r (H .item) (H .before) (H .after) l (H .is);
-        opening = opens-loop (nestAt t r) (and-left (opensLoop (nestAt t r)) _ e);
-        iterator = sym (eqb-true (rowAt t (H .item) .a) (rowAt t r .a) (and-right (leb 0 (H .item)) _ (H .holds)));
-      })
+      let H = any-held (openedWith t 0 (rowAt t r .a)) (openAt t r) (and-right (opensLoop (nestAt t r)) _ e) in (
+        H .item,
+        record {
+          around = open-around r (H .item) (H .before) (H .after) l (H .is);
+          opening = opens-loop (nestAt t r) (and-left (opensLoop (nestAt t r)) _ e);
+          iterator = sym (eqb-true (rowAt t (H .item) .a) (rowAt t r .a) (and-right (leb 0 (H .item)) _ (H .holds)));
+        },
+      )
 
   shares-holds : (o r : ℕ) → r ≤ t .rows → Shares t o r → sharesIterator t 0 r ≡ true
   unfolding sharesIterator
@@ -171,7 +173,7 @@ module _ (t : Table) where
       let I : IsOpen o r = subst (IsOpen o) at (stays-open o (A .opened) k (omega arith) (omega (arith, A .within))) in
       rw (S .opening, I .is)
       (any-at (openedWith t 0 (rowAt t r .a)) (I .inside) o (openAt t o)
-          (rw (le-leb 0 o (omega arith), eq-eqb (rowAt t o .a) (rowAt t r .a) (sym (S .iterator)))))
+      (rw (le-leb 0 o (omega arith), eq-eqb (rowAt t o .a) (rowAt t r .a) (sym (S .iterator)))))
 
 -- ---- what passing says
 

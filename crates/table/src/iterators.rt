@@ -25,7 +25,14 @@ fn iterator_of(words: &[u32], counts: Counts, row: u32) -> u32
 
 // Whether one of the open loops was opened at row `since` or later and has this iterator; the innermost is looked at first. Their rows are the
 // first `count` of `opened`.
-fn opened_with(words: &[u32], counts: Counts, opened: &[u32; 8], count: usize, since: u32, iterator: u32) -> bool
+fn opened_with(
+    words: &[u32],
+    counts: Counts,
+    opened: &[u32; 8],
+    count: usize,
+    since: u32,
+    iterator: u32,
+) -> bool
     requires { ⌜ (counts .decls ≤ 32) × (counts .nodes ≤ 1024) × (count ≤ 8) ⌝ }
     ensures { λ r. ⌜ r ≡ any (openedWith (tableBy (now (words .entry)) counts) since iterator) (keptRows (now (opened .entry)) count) ⌝ }
 {
@@ -54,7 +61,8 @@ pub(crate) fn first_shared(words: &[u32], counts: Counts) -> Found
         let nest = nest_of(words[4 * line]);
         if nest == OPENS {
             let at = row as u32;
-            if opened_with(words, counts, &opened, count, 0, iterator_of(words, counts, at)) {
+            let iterator = iterator_of(words, counts, at);
+            if opened_with(words, counts, &opened, count, 0, iterator) {
                 return Found::At(line);
             }
             opened[count] = at;

@@ -49,7 +49,7 @@ returns c =
     let opening = c .before .before .before .before .if2 .taken in
     let shares = shares-by t (at-head .row) (nested .result) (nested .ensures) (at-head .opened) (at-head .count) (at-head .inv .3) opening in
     sym (at-head .inv .4 ∙ row-hit (sharesIterator t 0) t (start .pre .0) (at-head .row) inside
-        (shares ∙ rw (sym (c .before .before .iterator-of .ensures)) (sym (c .before .opened-with .ensures) ∙ c .if3 .taken)))
+    (shares ∙ rw (sym (c .before .before .before .iterator-of .ensures)) (sym (c .before .opened-with .ensures) ∙ c .if3 .taken)))
 
 array-write-opened : tie.Need-array-write-opened Inv-loop μ-loop
 array-write-opened c =
@@ -60,7 +60,7 @@ array-write-opened c =
     let nested = c .before .before .before .before .before .nest-of in
     let opening = c .before .before .before .before .if2 .taken in
     few-kept t (at-head .row) (nested .result) (nested .ensures) (at-head .opened) (at-head .count) (at-head .inv .3)
-        (start .pre .1 .rows (at-head .row) inside) opening
+    (start .pre .1 .rows (at-head .row) inside) opening
 
 loop-again : tie.Need-loop-again Inv-loop μ-loop
 loop-again c =
@@ -75,29 +75,27 @@ loop-again c =
     let kept = at-head .inv .3 in
     ⊎-elim
     (λ w.
-        let opening = w .0 .taken in
-        let few : n < 8 = few-kept t r (nested .result) (nested .ensures) b n kept (start .pre .1 .rows r inside) opening in
-        let is : c .before .if2 .opened ≡ set b n r = w .5 in
-        let shares = shares-by t r (nested .result) (nested .ensures) b n kept opening in
-        (
-          search needs,
-          omega (arith, c .open-after .ensures .1),
-          rw (is, length-set b n r) (at-head .inv .2),
-          rw (is, c .open-after .ensures .0) (kept-opening t r (nested .result) (nested .ensures) b n kept opening (omega (arith, at-head .inv .2))),
-          at-head .inv .4
-              ∙ row-miss (sharesIterator t 0) t (start .pre .0) r inside (shares ∙ rw (sym (w .2 .ensures)) (sym (w .3 .ensures) ∙ w .4 .left)),
-        ))
+    let opening = w .0 .taken in
+    let few : n < 8 = few-kept t r (nested .result) (nested .ensures) b n kept (start .pre .1 .rows r inside) opening in
+    let is : c .before .if2 .opened ≡ set b n r = w .5 in
+    let shares = shares-by t r (nested .result) (nested .ensures) b n kept opening in (
+      search needs,
+      omega (arith, c .open-after .ensures .1),
+      rw (is, length-set b n r) (at-head .inv .2),
+      rw (is, c .open-after .ensures .0) (kept-opening t r (nested .result) (nested .ensures) b n kept opening (omega (arith, at-head .inv .2))),
+      at-head .inv .4
+          ∙ row-miss (sharesIterator t 0) t (start .pre .0) r inside (shares ∙ rw (sym (w .1 .ensures)) (sym (w .3 .ensures) ∙ w .4 .left)),
+    ))
     (λ w.
-        let other = w .0 .left in
-        let is : c .before .if2 .opened ≡ b = w .1 in
-        (
-          search needs,
-          few-after (nested .result) n 8 other (c .open-after .ensures .0) (at-head .inv .1),
-          rw is (at-head .inv .2),
-          rw (is, c .open-after .ensures .0) (kept-other t r (nested .result) (nested .ensures) b n kept other),
-          at-head .inv .4
-              ∙ row-miss (sharesIterator t 0) t (start .pre .0) r inside (shares-none t r (nested .result) (nested .ensures) b n kept other),
-        ))
+    let other = w .0 .left in
+    let is : c .before .if2 .opened ≡ b = w .1 in (
+      search needs,
+      few-after (nested .result) n 8 other (c .open-after .ensures .0) (at-head .inv .1),
+      rw is (at-head .inv .2),
+      rw (is, c .open-after .ensures .0) (kept-other t r (nested .result) (nested .ensures) b n kept other),
+      at-head .inv .4
+          ∙ row-miss (sharesIterator t 0) t (start .pre .0) r inside (shares-none t r (nested .result) (nested .ensures) b n kept other),
+    ))
     (c .before .if2 .came)
 
 returns-2 : tie.Need-returns-2 Inv-loop μ-loop

@@ -14,7 +14,7 @@ abbrev Inv-loop : tie.InvT-loop
 Inv-loop words counts opened count since iterator left₀ left =
     (left ≤ count)
     × (any (openedWith (tableBy words counts) since iterator) (keptRows opened count)
-        ≡ any (openedWith (tableBy words counts) since iterator) (keptRows opened left))
+    ≡ any (openedWith (tableBy words counts) since iterator) (keptRows opened left))
 
 abbrev μ-loop : tie.MeasureT-loop
 μ-loop words counts opened count since iterator left₀ left = left
