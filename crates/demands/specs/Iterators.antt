@@ -25,11 +25,11 @@ use Rattle.pair.specs.Pairs.{pairSaid}
 use Rattle.pair.specs.Pairs.PairSaid.{refusal as notRunning}
 use Rattle.demands.specs.Neighbours.{Starts}
 
--- the rows of the loops that a state has open
+-- the rows of the loops that a state has open (rule 2.3)
 abbrev pub openRows : State → List ℕ
 openRows s = map (λ (l : Loop). l .row) (s .here .loops)
 
--- No state of a run has two loops open with one iterator, from a fresh start or a record that 15 does not refuse
+-- No state of a run has two loops open with one iterator, from a fresh start or a record that 15 does not refuse (rule 1.18)
 abbrev pub OneLoopAtATime : Type 0
 OneLoopAtATime =
     (m : MachineKind) (ps t : List ℕ) → tableCheck m t ≡ Passes → (s : State) → Starts m ps (tableOf t) s → (choices : List ℕ)

@@ -49,7 +49,7 @@ checkedBy numbers m w =
     then firstRefusal (λ k. first (breaks k m (tableOf w)) 0 (length w / 4)) numbers
     else Refused 4 0
 
--- the table's checks
+-- the table's checks (rule 6.2)
 unfoldable pub tableCheck : MachineKind → List ℕ → Verdict
 tableCheck m w = checkedBy order m w
 

@@ -23,7 +23,7 @@ pub record Shares (t : Table) (o r : ℕ) : Type 0 where
   pub opening : nestAt t r ≡ opens
   pub iterator : rowAt t r .a ≡ rowAt t o .a
 
--- no table that passes has such a row
+-- no table that passes has such a row (rule 1.18)
 abbrev pub PassingSharesNone : Type 0
 PassingSharesNone = (m : MachineKind) (w : List ℕ) → tableCheck m w ≡ Passes → (o r : ℕ) → r < tableOf w .rows → Shares (tableOf w) o r → ⊥
 
@@ -39,17 +39,17 @@ pub record FirstShares (t : Table) (line : ℕ) : Type 0 where
 abbrev pub SixteenAtInner : Type 0
 SixteenAtInner = (m : MachineKind) (w : List ℕ) (line : ℕ) → tableCheck m w ≡ Refused 16 line → FirstShares (tableOf w) line
 
--- the checks of lines that come before 16
+-- the checks of lines that come before 16 (rule 6.2)
 abbrev pub before16 : List ℕ
 before16 = 5 ∷ 6 ∷ 7 ∷ 8 ∷ 9 ∷ 10 ∷ 11 ∷ 12 ∷ []
 
--- and back, of a table that 4 and these pass: where it has such a row it is refused with 16
+-- and back, of a table that 4 and these pass: where it has such a row it is refused with 16 (rule 6.23)
 abbrev pub SharingRefused : Type 0
 SharingRefused =
     (m : MachineKind) (w : List ℕ) → checkedBy before16 m w ≡ Passes → (o r : ℕ) → r < tableOf w .rows → Shares (tableOf w) o r
     → (line : ℕ) × (tableCheck m w ≡ Refused 16 line)
 
--- and where it has none it passes: a later loop may have the iterator again
+-- and where it has none it passes: a later loop may have the iterator again (rule 1.18)
 abbrev pub ApartPasses : Type 0
 ApartPasses =
     (m : MachineKind) (w : List ℕ) → checkedBy before16 m w ≡ Passes → ((o r : ℕ) → r < tableOf w .rows → Shares (tableOf w) o r → ⊥)
@@ -60,11 +60,11 @@ abbrev pub AllDiffer : List ℕ → Type 0
 AllDiffer [] = Unit {0}
 AllDiffer (x ∷ xs) = (any (eqb x) xs ≡ false) × AllDiffer xs
 
--- the iterators of the loops of these rows
+-- the iterators of the loops of these rows (rule 1.8)
 abbrev pub iteratorsOf : Table → List ℕ → List ℕ
 iteratorsOf t rows = map (λ (o : ℕ). rowAt t o .a) rows
 
--- in a table that passes, the loops open at any row, and past the last, have different iterators
+-- in a table that passes, the loops open at any row, and past the last, have different iterators (rule 1.18)
 abbrev pub OpenDiffer : Type 0
 OpenDiffer = (m : MachineKind) (w : List ℕ) → tableCheck m w ≡ Passes → (r : ℕ) → r ≤ tableOf w .rows
     → AllDiffer (iteratorsOf (tableOf w) (openAt (tableOf w) r))

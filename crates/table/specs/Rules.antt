@@ -26,7 +26,7 @@ ofNodeOrRow node row t i =
     if isDeclaration (kindAt t i) then false
     else (if isNode (kindAt t i) then node (i - t .decls) else row (i - (t .decls + t .nodes)))
 
--- a check of rows
+-- a check of rows alone
 abbrev pub ofRow : (ℕ → Bool) → Table → ℕ → Bool
 ofRow row t i = ofNodeOrRow (λ n. false) row t i
 
@@ -110,10 +110,11 @@ unfoldable pub any : (ℕ → Bool) → List ℕ → Bool
 any f [] = false
 any f (x ∷ xs) = f x || any f xs
 
--- the loop of row o was opened since row b, with the iterator v
+-- the loop of row o was opened since row b, with the iterator v (rules 1.8, 1.18)
 abbrev pub openedWith : Table → ℕ → ℕ → ℕ → Bool
 openedWith t b v o = leb b o && eqb (rowAt t o .a) v
 
+-- 38 and 42 (rule 1.14)
 abbrev pub opensLoop : Nest → Bool
 opensLoop opens = true
 opensLoop closes = false

@@ -17,7 +17,7 @@ const CLOSES: u32 = 2;
 
 const MOST: usize = 8;
 
-// The open loops after a row, from those before it.
+// The open loops after a row, from those before it. For checks 11 and 16 and the matching end, which count no more loops than there are rows.
 pub(crate) fn open_after(nest: u32, count: usize) -> usize
     requires { ⌜ count < 2 ^ 62 ⌝ }
     ensures { λ r. ⌜ (r ≡ openAfter nest count) × (r ≤ count + 1) ⌝ }
