@@ -105,7 +105,7 @@ fn sort_of(kind: u32, reduced: bool) -> Option<Sort> {
         19 | 26 | 34 if reduced => None,
         16..=26 => Some(Sort::Node),
         27..=29 if reduced => Some(Sort::Node),
-        32..=39 => Some(Sort::Row),
+        32..=39 | 43..=45 => Some(Sort::Row),
         40..=42 if reduced => Some(Sort::Row),
         _ => None,
     }
@@ -116,8 +116,8 @@ fn suits(&[kind, a, b, c]: &Line) -> bool {
     match kind {
         1 | 32 | 39 => a == 0 && b == 0 && c == 0,
         2 | 3 | 18 => a <= 1 && b == 0 && c == 0,
-        16 | 17 | 19 | 26..=29 | 35 | 36 => b == 0 && c == 0,
-        20..=24 | 33 | 34 | 37 | 40 | 41 => c == 0,
+        16 | 17 | 19 | 26..=29 | 35 | 36 | 44 => b == 0 && c == 0,
+        20..=24 | 33 | 34 | 37 | 40 | 41 | 43 => c == 0,
         _ => true,
     }
 }
@@ -128,11 +128,13 @@ fn there(&[kind, a, b, c]: &Line, variables: usize, nodes: usize) -> bool {
     let node = |x: u32| (x as usize) < nodes;
     match kind {
         16 | 27 => variable(a),
-        19 | 26 | 28 | 29 | 35 | 36 => node(a),
+        19 | 26 | 28 | 29 | 35 | 36 | 44 => node(a),
         20..=24 | 34 | 40 => node(a) && node(b),
         25 => node(a) && node(b) && node(c),
         33 | 37 | 41 => variable(a) && node(b),
         38 | 42 => variable(a) && node(b) && node(c),
+        43 => b == 0 || a as u64 + b as u64 <= variables as u64,
+        45 => node(b) && variable(c),
         _ => true,
     }
 }
@@ -174,6 +176,9 @@ fn row_typed(&[kind, a, b, c]: &Line, variables: &[Line], types: &[Type]) -> boo
         35 | 36 => of(a) == Bool,
         37 | 41 => variable(a) == Pointer && of(b) == Uint,
         38 | 42 => variable(a) == Uint && of(b) == Uint && of(c) == Uint,
+        43 => (a..a.saturating_add(b)).all(|v| variable(v) == Uint),
+        44 => of(a) == Uint,
+        45 => of(b) == Uint && variable(c) == Uint,
         _ => true,
     }
 }
@@ -226,7 +231,7 @@ fn wrong_mark(&[kind, a, ..]: &Line, variables: &[Line], reduced: bool) -> bool 
     }
 }
 
-/// The first row that breaks check 16, the loops being closed.
+/// The first row that breaks check 16, the loops being closed; a 43 begins anew.
 fn first_shared(rows: &[Line]) -> Option<usize> {
     let mut iterators = Vec::new();
     rows.iter().position(|&[kind, a, ..]| {
@@ -236,13 +241,78 @@ fn first_shared(rows: &[Line]) -> Option<usize> {
             39 => {
                 iterators.pop();
             }
+            43 => iterators.clear(),
             _ => {}
         }
         false
     })
 }
 
-/// Checks 4 to 12 and 16.
+/// Variables, a bit for each: those from a on, so many.
+fn stretch(a: u32, b: u32) -> u32 {
+    if b == 0 { 0 } else { (u32::MAX >> (32 - b)) << a }
+}
+
+/// The variables that each node reads, itself or in a node under it.
+fn reads(nodes: &[Line]) -> Vec<u32> {
+    let mut found: Vec<u32> = Vec::with_capacity(nodes.len());
+    for &[kind, a, b, c] in nodes {
+        let of = |x: u32| found[x as usize];
+        found.push(match kind {
+            16 | 27 => 1 << a,
+            19 | 26 | 28 | 29 => of(a),
+            20..=24 => of(a) | of(b),
+            25 => of(a) | of(b) | of(c),
+            _ => 0,
+        });
+    }
+    found
+}
+
+/// The variables that a row uses.
+fn uses(&[kind, a, b, c]: &Line, reads: &[u32]) -> u32 {
+    let of = |x: u32| reads[x as usize];
+    match kind {
+        33 | 37 | 41 => 1 << a | of(b),
+        34 | 40 => of(a) | of(b),
+        35 | 36 | 44 => of(a),
+        38 | 42 => 1 << a | of(b) | of(c),
+        45 => of(b) | 1 << c,
+        _ => 0,
+    }
+}
+
+/// The first row that breaks check 17.
+fn first_misplaced(variables: &[Line], nodes: &[Line], rows: &[Line]) -> Option<usize> {
+    // the locals of each procedure, and of all
+    let (mut owned, mut all) = (Vec::new(), 0);
+    for &[_, a, b, _] in rows.iter().filter(|row| row[0] == 43) {
+        owned.push(stretch(a, b) & !all);
+        all |= stretch(a, b);
+    }
+    let marks = variables.iter().rev().fold(0, |bits, v| bits << 1 | u32::from(v[1] == 1));
+    let reads = reads(nodes);
+    let (mut opened, mut own, mut loops) = (0, 0, 0);
+    rows.iter().position(|row| {
+        let &[kind, a, b, c] = row;
+        match kind {
+            43 => {
+                own = owned[opened];
+                opened += 1;
+                let listed = stretch(a, b);
+                return opened > 16 || loops > 0 || !(1..=4).contains(&b) || listed & marks != 0 || listed != own;
+            }
+            38 | 42 => loops += 1,
+            39 => loops -= 1,
+            44 if opened == 0 => return true,
+            45 if a as usize >= owned.len() || marks >> c & 1 == 1 => return true,
+            _ => {}
+        }
+        uses(row, &reads) & all & !own != 0
+    })
+}
+
+/// Checks 4 to 12, 16 and 17.
 fn check_table(words: &[u32], reduced: bool) -> Result<(), Refusal> {
     let (lines, rest) = words.as_chunks::<4>();
     if !rest.is_empty() {
@@ -306,6 +376,9 @@ fn check_table(words: &[u32], reduced: bool) -> Result<(), Refusal> {
     }
     if let Some(i) = first_shared(rows) {
         return refuse(16, first_row + i);
+    }
+    if let Some(i) = first_misplaced(variables, nodes, rows) {
+        return refuse(17, first_row + i);
     }
     Ok(())
 }

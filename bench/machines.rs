@@ -7,6 +7,7 @@ const ROOM: usize = 262_144;
 const HEAD: usize = 7;
 const FILL: u32 = 7;
 pub const ARRAYS: usize = 16;
+const CALLERS: usize = 8;
 
 // The table, decoded
 
@@ -36,6 +37,18 @@ pub enum Row {
     New { variable: usize, length: usize, reduced: bool },
     Loop { iterator: usize, start: usize, end: usize, classes: bool, close: usize },
     Close,
+    Call { from: usize, to: usize, argument: usize, result: usize },
+    Return { from: usize, node: usize },
+    /// Where main or a procedure ends: a 43, or past the last row.
+    End { from: usize },
+}
+
+/// Main, the first of the parts, or a procedure: its first row, and its locals.
+#[derive(Clone, Copy)]
+pub struct Part {
+    start: usize,
+    first: usize,
+    count: usize,
 }
 
 #[derive(Clone, Copy, PartialEq)]
@@ -54,6 +67,8 @@ pub struct Table {
     pub variables: Vec<Declaration>,
     pub nodes: Vec<Node>,
     pub rows: Vec<Row>,
+    parts: Vec<Part>,
+    pub main_end: usize,
 }
 
 fn node(&[kind, a, b, c]: &[u32; 4]) -> Node {
@@ -74,7 +89,7 @@ fn node(&[kind, a, b, c]: &[u32; 4]) -> Node {
     }
 }
 
-fn row(&[kind, a, b, c]: &[u32; 4], close: usize) -> Row {
+fn row(&[kind, a, b, c]: &[u32; 4], close: usize, from: usize) -> Row {
     let (x, y, z) = (a as usize, b as usize, c as usize);
     match kind {
         32 => Row::Skip,
@@ -84,6 +99,9 @@ fn row(&[kind, a, b, c]: &[u32; 4], close: usize) -> Row {
         36 => Row::Assume(x),
         37 | 41 => Row::New { variable: x, length: y, reduced: kind == 41 },
         38 | 42 => Row::Loop { iterator: x, start: y, end: z, classes: kind == 42, close },
+        43 => Row::End { from },
+        44 => Row::Return { from, node: x },
+        45 => Row::Call { from, to: 1 + x, argument: y, result: z },
         _ => Row::Close,
     }
 }
@@ -102,6 +120,20 @@ fn closes(rows: &[[u32; 4]]) -> Vec<usize> {
     closes
 }
 
+/// Main and the procedures, and of each row, with the one past the last, to which of them it belongs.
+fn parts(rows: &[[u32; 4]]) -> (Vec<Part>, Vec<usize>) {
+    let mut parts = vec![Part { start: 0, first: 0, count: 0 }];
+    let mut homes = Vec::with_capacity(rows.len() + 1);
+    for (r, &[kind, a, b, _]) in rows.iter().enumerate() {
+        homes.push(parts.len() - 1);
+        if kind == 43 {
+            parts.push(Part { start: r + 1, first: a as usize, count: b as usize });
+        }
+    }
+    homes.push(parts.len() - 1);
+    (parts, homes)
+}
+
 pub fn decode(words: &[u32]) -> Table {
     let (lines, _) = words.as_chunks::<4>();
     let (variables, lines) = lines.split_at(lines.iter().take_while(|l| l[0] <= 3).count());
@@ -111,10 +143,15 @@ pub fn decode(words: &[u32]) -> Table {
         2 => Type::Uint,
         _ => Type::Pointer,
     };
+    let (parts, homes) = parts(rows);
+    let last = Row::End { from: homes[rows.len()] };
+    let decoded = rows.iter().zip(closes(rows)).zip(homes).map(|((line, close), from)| row(line, close, from));
     Table {
         variables: variables.iter().map(|l| Declaration { sort: sort(l[0]), marked: l[1] == 1 }).collect(),
         nodes: nodes.iter().map(node).collect(),
-        rows: rows.iter().zip(closes(rows)).map(|(line, close)| row(line, close)).collect(),
+        rows: decoded.chain([last]).collect(),
+        main_end: parts.get(1).map_or(rows.len(), |procedure| procedure.start - 1),
+        parts,
     }
 }
 
@@ -140,6 +177,7 @@ pub enum End {
     Steps,
     BadChoice,
     NoChoice,
+    Deep,
 }
 
 impl End {
@@ -157,6 +195,7 @@ impl End {
             End::Steps => "steps",
             End::BadChoice => "badchoice",
             End::NoChoice => "nochoice",
+            End::Deep => "deep",
         }
     }
 }
@@ -183,12 +222,76 @@ pub struct Pointer {
 }
 
 #[derive(Clone)]
+struct Caller {
+    row: usize,
+    around: usize,
+    locals: [u32; 4],
+}
+
+/// The open loops of the callers stand below those of what is at work, which begin at `around`; so do each caller's.
+#[derive(Clone)]
 pub struct Record {
     pub row: usize,
     pub loops: Vec<Open>,
+    around: usize,
     pub numbers: [u32; 32],
     pub bases: [u32; 32],
     pub arrays: Vec<Array>,
+    callers: Vec<Caller>,
+}
+
+impl Record {
+    /// Puts the caller aside and starts a procedure with a number: whether there is room for the caller.
+    pub fn call(&mut self, table: &Table, from: usize, to: usize, v: u32) -> bool {
+        if self.callers.len() == CALLERS {
+            return false;
+        }
+        let Part { first, count, .. } = table.parts[from];
+        let own = &mut self.numbers[first..first + count];
+        let mut locals = [0; 4];
+        locals[..count].copy_from_slice(own);
+        own.fill(0);
+        self.callers.push(Caller { row: self.row, around: self.around, locals });
+        self.around = self.loops.len();
+        let Part { start, first, .. } = table.parts[to];
+        self.numbers[first] = v;
+        self.row = start;
+        true
+    }
+
+    /// Returns a number to the last caller.
+    pub fn give_back(&mut self, table: &Table, from: usize, v: u32) {
+        let Part { first, count, .. } = table.parts[from];
+        self.numbers[first..first + count].fill(0);
+        let Caller { row, around, locals } = self.callers.pop().expect("a caller");
+        self.loops.truncate(self.around);
+        self.around = around;
+        let Row::Call { from, result, .. } = table.rows[row] else { unreachable!() };
+        let Part { first, count, .. } = table.parts[from];
+        self.numbers[first..first + count].copy_from_slice(&locals[..count]);
+        self.numbers[result] = v;
+        self.row = row + 1;
+    }
+
+    /// Of each caller, the one in main first, its row, its locals, how many loops are open, and these.
+    fn caller_words(&self, table: &Table) -> Vec<u32> {
+        let mut words = vec![self.callers.len() as u32];
+        for (d, caller) in self.callers.iter().enumerate() {
+            let end = self.callers.get(d + 1).map_or(self.around, |next| next.around);
+            let Row::Call { from, .. } = table.rows[caller.row] else { unreachable!() };
+            words.push(caller.row as u32);
+            words.extend(&caller.locals[..table.parts[from].count]);
+            words.extend(loop_words(&self.loops[caller.around..end]));
+        }
+        words
+    }
+}
+
+/// How many loops are open, and of each its row, start and end.
+fn loop_words(loops: &[Open]) -> Vec<u32> {
+    let mut words = vec![loops.len() as u32];
+    words.extend(loops.iter().flat_map(|open| [open.row as u32, open.start, open.end]));
+    words
 }
 
 #[derive(Clone, Copy)]
@@ -418,14 +521,28 @@ impl Machine<'_> {
                 }
             }
             Row::Close => return self.close(),
+            Row::Call { from, to, argument, .. } => {
+                let v = self.uint(argument)?;
+                return if self.record.call(self.table, from, to, v) { Ok(()) } else { Err(End::Deep) };
+            }
+            Row::Return { from, node } => {
+                let v = self.uint(node)?;
+                self.record.give_back(self.table, from, v);
+                return Ok(());
+            }
+            Row::End { from } => {
+                self.record.give_back(self.table, from, 0);
+                return Ok(());
+            }
         }
         self.record.row += 1;
         Ok(())
     }
 
+    /// A row of a procedure is past main's end.
     pub fn run(&mut self, limit: u32) -> (End, u32) {
         let mut steps = 0;
-        while self.record.row < self.table.rows.len() {
+        while self.record.row != self.table.main_end {
             if steps == limit {
                 return (End::Steps, steps);
             }
@@ -450,7 +567,8 @@ pub fn fresh(table: &Table, reduced: bool, pair: Pair) -> Record {
             *n = pair.class(0);
         }
     }
-    Record { row: 0, loops: Vec::with_capacity(8), numbers, bases: [0; 32], arrays: Vec::with_capacity(ARRAYS) }
+    let (loops, arrays, callers) = (Vec::with_capacity(8), Vec::with_capacity(ARRAYS), Vec::with_capacity(CALLERS));
+    Record { row: 0, loops, around: 0, numbers, bases: [0; 32], arrays, callers }
 }
 
 // The cases
@@ -460,10 +578,8 @@ fn mix(h: u32, w: u32) -> u32 {
 }
 
 fn record_check(table: &Table, record: &Record) -> u32 {
-    let mut words = vec![record.row as u32, record.loops.len() as u32];
-    for open in &record.loops {
-        words.extend([open.row as u32, open.start, open.end]);
-    }
+    let mut words = vec![record.row as u32];
+    words.extend(loop_words(&record.loops[record.around..]));
     for (i, v) in table.variables.iter().enumerate() {
         words.push(record.numbers[i]);
         if v.sort == Type::Pointer {
@@ -474,6 +590,7 @@ fn record_check(table: &Table, record: &Record) -> u32 {
     for array in &record.arrays {
         words.extend([array.first as u32, array.length, array.reduced as u32]);
     }
+    words.extend(record.caller_words(table));
     words.into_iter().fold(0, mix)
 }
 

@@ -214,6 +214,19 @@ impl Writer<'_> {
                 }
             }
             Row::Close => return self.close(),
+            Row::Call { from, to, argument, .. } => {
+                let v = self.uint(argument)?;
+                return if self.record.call(self.table, from, to, v) { Ok(()) } else { Err(Stop::Ended) };
+            }
+            Row::Return { from, node } => {
+                let v = self.uint(node)?;
+                self.record.give_back(self.table, from, v);
+                return Ok(());
+            }
+            Row::End { from } => {
+                self.record.give_back(self.table, from, 0);
+                return Ok(());
+            }
         }
         self.record.row += 1;
         Ok(())
@@ -223,7 +236,7 @@ impl Writer<'_> {
     fn run(mut self, limit: u32) -> (Vec<u32>, Option<Line>) {
         let mut steps = 0;
         let mut end = End::Done;
-        while self.record.row < self.table.rows.len() {
+        while self.record.row != self.table.main_end {
             if steps == limit {
                 end = End::Steps;
                 break;

@@ -108,9 +108,12 @@ NODES += [(21, 5, 0, 0), (22, 0, 5, 0), (23, 0, 5, 0), (24, 0, 5, 0), (25, 1, 0,
 ROWS = [SKIP, (33, 3, 0, 0), (33, 2, 1, 0), (33, 4, 3, 0), (33, 1, 6, 0), (34, 3, 0, 0), (34, 6, 5, 0), (35, 1, 0, 0), (36, 12, 0, 0)]
 ROWS += [(37, 1, 0, 0), (37, 4, 5, 0), (38, 0, 0, 5), (38, 3, 5, 0), END, END]
 KINDS = VARIABLES + NODES + ROWS
+# the rows of procedures, in main and in two of them, with rows that the reduction changes
+CALLS = [MU, MP, U, U, U, C, (16, 0, 0, 0), (16, 1, 0, 0), (19, 2, 0, 0), (16, 3, 0, 0), (37, 1, 0, 0), (38, 0, 0, 0), (45, 1, 1, 2), END]
+CALLS += [(43, 3, 1, 0), (34, 2, 4, 0), (44, 3, 0, 0), (43, 4, 1, 0), (38, 0, 0, 0), (45, 0, 3, 4), (44, 1, 0, 0), END]
 # 1,312 lines: as many of each sort as there may be
 FULL = (VARIABLES * 7)[:32] + (NODES * 54)[:1024] + (ROWS * 17)[:255] + [SKIP]
-PASSING = {"none": [], "one": [SKIP], "31": [SKIP] * 31, "32": [U] + [SKIP] * 31, "T": T, "kinds": KINDS, "full": FULL}
+PASSING = {"none": [], "one": [SKIP], "31": [SKIP] * 31, "32": [U] + [SKIP] * 31, "T": T, "kinds": KINDS, "calls": CALLS, "full": FULL}
 
 
 def chain(depth):
@@ -150,11 +153,19 @@ REFUSED = [
     (flat(loops(0, 0)), (16, 11)),
     (flat(loops(0, 1, 2, 3, 4, 5, 6, 0)), (16, 17)),
     (flat([MU, C, (38, 0, 0, 0), (38, 0, 0, 0), END, END]), (16, 3)),
+    (flat([U, C, (45, 0, 0, 0)]), (17, 2)),
+    (flat([U, C, SKIP, (44, 0, 0, 0)]), (17, 3)),
+    (flat(CALLS + [(43, 3, 1, 0)]), (17, 22)),
+    (flat([U, U, C, (33, 1, 0, 0), (43, 1, 1, 0)]), (17, 3)),
+    (flat([U, U, C, (43, 1, 2, 0)]), (8, 3)),
+    (flat([U, P, C, (43, 0, 2, 0)]), (9, 3)),
     # more than one check: the first that is broken
     (flat([(33, 0, 0, 0), (99, 0, 0, 0)]) + [1], (4, 0)),
     (flat([MU, C, (33, 0, 0, 0), (39, 1, 0, 0)]), (7, 3)),
     (flat([MU, C, (38, 0, 0, 0), (38, 0, 0, 0), END, END, (33, 0, 0, 0)]), (12, 6)),
     (flat(loops(0, 0) + [END]), (11, 14)),
+    (flat(loops(0, 0) + [(44, 0, 0, 0)]), (16, 11)),
+    (flat([U, C, (44, 0, 0, 0), (38, 0, 0, 0), (38, 0, 0, 0), END, END]), (16, 4)),
 ]
 
 
@@ -216,7 +227,7 @@ def reader():
         for fill in 7, BIG:
             case(READER, "lines %d" % len(lines), READ_WORDS, fill, data=blocks(lines))
     # the reader takes any words, and no pair is asked for
-    for lines in loops(0, 0), loops(0, 1, 2, 3, 4, 5, 6, 0), [(99, BIG, 0, 1)], [(40, 0, 0, 0), (1, 1, 1, 1)] * 20, [(BIG, BIG, BIG, BIG)] * 31, [SKIP] * 1312:
+    for lines in loops(0, 0), [U, C, (44, 0, 0, 0)], loops(0, 1, 2, 3, 4, 5, 6, 0), [(99, BIG, 0, 1)], [(40, 0, 0, 0), (1, 1, 1, 1)] * 20, [(BIG, BIG, BIG, BIG)] * 31, [SKIP] * 1312:
         case(READER, "lines %d" % len(lines), READ_WORDS, 7, (5, 5), blocks(lines))
     case(READER, "lines 16", READ_WORDS, 0, data=blocks(T))
     for data, refusal in REFUSED_FILES:
@@ -301,6 +312,9 @@ def checks():
         ([MU, C] + [(42, 0, 0, 0)] * 8 + [END] * 8, (16, 3)),
         ([MU, U, C, (42, 0, 0, 0), (38, 1, 0, 0), (42, 0, 0, 0), END, END, END], (16, 5)),
         ([MU, U, C, (42, 0, 0, 0), (38, 1, 0, 0), END, END, (42, 0, 0, 0), END], None),
+        ([MU, U, C, (42, 0, 0, 0), (43, 1, 1, 0), END], (17, 4)),
+        ([MU, U, C, (45, 0, 0, 0), (43, 1, 1, 0)], (17, 3)),
+        ([MU, U, C, (43, 1, 1, 0), (42, 0, 0, 0), (44, 0, 0, 0), END], None),
     ):
         case(REDUCED, "passes" if refusal is None else refused(refusal), data=packed(flat(lines)))
     for words in [32], [32, 0], [32, 0, 0], flat(T) + [32]:

@@ -1,5 +1,5 @@
 """The rules on files, tables and pairs, for make_cases.py and for test_run_cases/break_rules.py: sections 1 and 5 of docs/RULES.md and the
-refusals 1 to 13 and 16 of section 6, apart from the proved code.
+refusals 1 to 13, 16 and 17 of section 6, apart from the proved code.
 
 A refusal is a number and a place; None is none. A table is lines of four words.
 """
@@ -13,18 +13,20 @@ from make_cases import Table  # noqa: E402
 BLOCK, FULL, MOST_BYTES, MOST_LINES = 512, 31, 22016, 1312
 MOST = (32, 1024, 256)
 MOST_DEPTH, MOST_LOOPS = 12, 8
+MOST_PROCEDURES, MOST_LOCALS = 16, 4
 BOOL, UINT, POINTER = 1, 2, 3
 
-# What the operands a, b, c of a kind are: 0 zero, m mark, f 0 or 1, c any number, v variable, n node.
+# What the operands a, b, c of a kind are: 0 zero, m mark, f 0 or 1, c any number, v variable, n node, l first local, k count of locals,
+# p procedure.
 ROLES = {
     1: "000", 2: "m00", 3: "m00",
     16: "v00", 17: "c00", 18: "f00", 19: "n00", 20: "nn0", 21: "nn0", 22: "nn0", 23: "nn0", 24: "nn0", 25: "nnn", 26: "n00",
     27: "v00", 28: "n00", 29: "n00",
     32: "000", 33: "vn0", 34: "nn0", 35: "n00", 36: "n00", 37: "vn0", 38: "vnn", 39: "000",
-    40: "nn0", 41: "vn0", 42: "vnn",
+    40: "nn0", 41: "vn0", 42: "vnn", 43: "lk0", 44: "n00", 45: "pnv",
 }  # fmt: skip
-PLAIN_KINDS = {*range(1, 4), *range(16, 27), *range(32, 40)}
-REDUCED_KINDS = {*range(1, 4), *range(16, 30), *range(32, 43)} - {19, 26, 34}
+PLAIN_KINDS = {*range(1, 4), *range(16, 27), *range(32, 40), *range(43, 46)}
+REDUCED_KINDS = {*range(1, 4), *range(16, 30), *range(32, 46)} - {19, 26, 34}
 
 # The types that the variables and nodes of a node or row may have, and the type of the node.
 SUMS = {(UINT, UINT): UINT, (POINTER, UINT): POINTER}
@@ -34,7 +36,7 @@ TYPES = {
     16: {(t,): t for t in (BOOL, UINT, POINTER)}, 17: {(): UINT}, 18: {(): BOOL}, 19: {(POINTER,): UINT}, 20: SUMS, 21: SUMS, 22: COMPARED,
     23: COMPARED, 24: COMPARED, 25: {(BOOL, t, t): t for t in (BOOL, UINT, POINTER)}, 26: {(POINTER,): BOOL},
     32: {(): None}, 33: SAME, 34: {(POINTER, UINT): None}, 35: {(BOOL,): None}, 36: {(BOOL,): None}, 37: {(POINTER, UINT): None},
-    38: {(UINT, UINT, UINT): None}, 39: {(): None},
+    38: {(UINT, UINT, UINT): None}, 39: {(): None}, 43: {(): None}, 44: {(UINT,): None}, 45: {(UINT, UINT): None},
 }  # fmt: skip
 TYPES = {kind: dict(types) for kind, types in TYPES.items()}
 for new, old in {27: 16, 28: 19, 29: 26, 40: 34, 41: 37, 42: 38}.items():
@@ -99,6 +101,7 @@ class Checked:
         self.known = REDUCED_KINDS if reduced else PLAIN_KINDS
         self.declarations = [line for line in lines if sort(line[0]) == 0]
         self.nodes = [line for line in lines if sort(line[0]) == 1]
+        self.procedures = [line for line in lines if line[0] == 43]
 
     def first(self, breaks):
         return next((i for i, line in enumerate(self.lines) if breaks(i, line)), None)
@@ -144,6 +147,8 @@ class Checked:
             for role, w in zip(ROLES[line[0]], line[1:]):
                 if role == "v" and w >= len(self.declarations):
                     return True
+                if role == "l" and line[2] > 0 and w + line[2] > len(self.declarations):
+                    return True
                 if role == "n" and w >= len(self.nodes):
                     return True
                 if role == "n" and sort(line[0]) == 1 and w >= self.node(i):
@@ -162,6 +167,9 @@ class Checked:
             operands = tuple(at(found[role], w) for role, w in zip(ROLES[line[0]], line[1:]) if role in "vn")
             if sort(line[0]) == 1:
                 types.append(TYPES[line[0]].get(operands))
+            locals_ = range(line[1], line[1] + line[2]) if line[0] == 43 else ()
+            if any(at(found["v"], v) != UINT for v in locals_):
+                return True
             return operands not in TYPES[line[0]]
 
         return self.first(breaks)
@@ -217,6 +225,8 @@ class Checked:
 
         def breaks(i, line):
             kind, a, _, _ = line
+            if kind == 43:
+                iterators.clear()
             if kind == 39 and iterators:
                 iterators.pop()
             if kind not in (38, 42):
@@ -226,8 +236,60 @@ class Checked:
 
         return self.first(breaks)
 
+    def marked(self, v):
+        return (at(self.declarations, v) or (0, 0))[1] == 1
 
-ORDER = (5, 6, 7, 8, 9, 10, 11, 12, 16)
+    def owners(self):
+        """Of each local the procedure that has it, the first whose 43 lists it."""
+        found = {}
+        for p, (_, a, b, _) in enumerate(self.procedures):
+            for v in range(a, min(a + b, len(self.declarations))):
+                found.setdefault(v, p)
+        return found
+
+    def reads(self):
+        """Of each node the variables that it reads, itself or in a node under it."""
+        found = []
+        for kind, *operands in self.nodes:
+            below = [at(found, w) or set() for role, w in zip(ROLES[kind], operands) if role == "n"]
+            own = {w for role, w in zip(ROLES[kind], operands) if role == "v"}
+            found.append(own.union(*below))
+        return found
+
+    def check_17(self):
+        owners, reads = self.owners(), self.reads()
+        home, loops = None, 0  # the procedure where a row stands, and how many loops are open
+
+        def opens_badly(a, b):
+            listed = range(a, a + b)
+            if home >= MOST_PROCEDURES or loops > 0 or not 1 <= b <= MOST_LOCALS:
+                return True
+            return any(self.marked(v) or owners.get(v, home) < home for v in listed)
+
+        def uses(line):
+            operands = list(zip(ROLES[line[0]], line[1:]))
+            read = [at(reads, w) or set() for role, w in operands if role == "n"]
+            return {w for role, w in operands if role == "v"}.union(*read)
+
+        def breaks(i, line):
+            nonlocal home, loops
+            kind, a, b, c = line
+            if sort(kind) != 2:
+                return False
+            if kind == 43:
+                home = 0 if home is None else home + 1
+                return opens_badly(a, b)
+            loops += (kind in (38, 42)) - (kind == 39)
+            if kind == 44 and home is None:
+                return True
+            if kind == 45 and (a >= len(self.procedures) or self.marked(c)):
+                return True
+            return any(owners.get(v, home) != home for v in uses(line))
+
+        return self.first(breaks)
+
+
+ORDER = (5, 6, 7, 8, 9, 10, 11, 12, 16, 17)
 
 
 def check_table(words, reduced):

@@ -120,6 +120,71 @@ def one_loop_at_a_time():
         yield struct.pack("<3I", 1, 3, 9) + write([declaration, constant(0), inner, end, inner, end]), beside
 
 
+def both_lines(ended, choices=0):
+    return ["plain " + ended, "pair %s choices %d" % (ended, choices)]
+
+
+def procedures():
+    """Calls and returns, with the examples of rule 8.22; too deep on both lines; a list that is full at a call; 17 at its line."""
+    head = [U, U, constant(5), variable(1), (20, 1, 1, 0)]
+    call, opened, again, double = (45, 0, 0, 0), (43, 1, 1, 0), (45, 0, 1, 0), (44, 2, 0, 0)
+    for limit, rows, ended in (
+        (9, [call, opened, double], "done row 1 steps 2"),
+        (BIG, [call, opened, double], "done row 1 steps 2"),
+        (1, [call, opened, double], "steps row 2 steps 1"),
+        (9, [call, opened], "done row 1 steps 2"),
+        (1, [call, opened], "steps row 2 steps 1"),
+        (9, [call, opened, again], "deep row 2 steps 9"),
+        (8, [call, opened, again], "steps row 2 steps 8"),
+        (0, [opened, double], "done row 0 steps 0"),
+        (9, [opened], "done row 0 steps 0"),
+    ):
+        yield struct.pack("<3I", 1, 3, limit) + write(head + rows), both_lines(ended)
+    # node k takes 2^k choices: a call that takes some, too deep or not, and a return
+    nodes = [variable(0)] + [(20, k, k, 0) for k in range(11)] + [constant(1)]
+    for taken in 0, 1, 5:
+        recursion = [MU, U, U, *nodes, (45, 0, taken, 1), (43, 2, 1, 0), (45, 0, taken, 1)]
+        yield struct.pack("<3I", 1, 3, 99) + write(recursion), both_lines("deep row 2 steps 9", 9 * 2**taken)
+        returned = [MU, U, U, *nodes, (45, 0, taken, 1), (43, 2, 1, 0), (44, taken, 0, 0)]
+        yield struct.pack("<3I", 1, 3, 99) + write(returned), both_lines("done row 1 steps 2", 2 * 2**taken)
+    # the first four rows take 7,168: the list is full at a call, at the ninth, at a return, or holds what they take
+    fill = [(33, 1, 11, 0)] * 3 + [(33, 1, 10, 0)]
+    for rows, plain, pair in (
+        ([*fill, (45, 0, 10, 1), (43, 2, 1, 0), (44, 12, 0, 0)], "done row 5 steps 6", "done row 5 steps 6 choices 8192"),
+        ([*fill, (45, 0, 11, 1), (43, 2, 1, 0), (44, 12, 0, 0)], "done row 5 steps 6", "nochoice row 4 steps 4 choices 7168"),
+        ([*fill, (45, 0, 10, 1), (43, 2, 1, 0), (44, 0, 0, 0)], "done row 5 steps 6", "nochoice row 6 steps 5 choices 8192"),
+        ([*fill, (45, 0, 10, 1), (43, 2, 1, 0)], "done row 5 steps 6", "done row 5 steps 6 choices 8192"),
+        ([*fill, (45, 0, 7, 1), (43, 2, 1, 0), (45, 0, 7, 1)], "deep row 6 steps 13", "nochoice row 6 steps 12 choices 8192"),
+        ([*fill, (45, 0, 12, 1), (43, 2, 1, 0), (45, 0, 7, 1)], "deep row 6 steps 13", "deep row 6 steps 13 choices 8192"),
+    ):
+        yield struct.pack("<3I", 1, 3, 99) + write([MU, U, U, *nodes, *rows]), ["plain " + plain, "pair " + pair]
+    # 17, also with a pair that 13 refuses, after 16
+    for c1, c2 in (1, 3), (1, 1):
+        for rows, refused in (
+            ([call], "17 line 5"),
+            ([call, opened, (45, 1, 0, 0)], "17 line 7"),
+            ([(44, 0, 0, 0), opened], "17 line 5"),
+            ([(38, 0, 0, 0), opened, (39, 0, 0, 0)], "17 line 6"),
+            ([(38, 0, 0, 0), opened, (38, 0, 0, 0), (39, 0, 0, 0), (39, 0, 0, 0)], "17 line 6"),
+            ([(43, 1, 0, 0)], "17 line 5"),
+            ([(43, 99, 0, 0)], "17 line 5"),
+            ([(43, 0, 2, 0), (43, 1, 1, 0)], "17 line 6"),
+            ([again, opened], "17 line 5"),
+            ([(45, 0, 0, 1), opened], "17 line 5"),
+            ([(44, 0, 0, 0), (38, 0, 0, 0), (38, 0, 0, 0), (39, 0, 0, 0), (39, 0, 0, 0)], "16 line 7"),
+            ([call, (43, 1, 5, 0)], "8 line 6"),
+            ([call, (43, 0, BIG, 0)], "8 line 6"),
+            ([call, (43, 1, 1, 1)], "7 line 6"),
+        ):
+            yield struct.pack("<3I", c1, c2, 9) + write(head + rows), ["refused " + refused]
+    yield struct.pack("<3I", 1, 1, 9) + write([MU, U, constant(5), (45, 0, 0, 0), (43, 1, 1, 0)]), ["refused 17 line 3"]
+    yield struct.pack("<3I", 1, 1, 9) + write([U, MU, constant(5), (45, 0, 0, 0), (43, 1, 1, 0)]), ["refused 17 line 4"]
+    yield struct.pack("<3I", 1, 1, 9) + write([P, U, constant(5), (45, 0, 0, 1), (43, 0, 1, 0)]), ["refused 9 line 4"]
+    seventeen = [U] * 18 + [constant(5), (45, 16, 0, 17), *((43, v, 1, 0) for v in range(17))]
+    yield struct.pack("<3I", 1, 3, 9) + write(seventeen), ["refused 17 line 36"]
+    yield struct.pack("<3I", 1, 3, 9) + write(seventeen[:-1]), ["refused 17 line 19"]
+
+
 def main():
     vectors = pathlib.Path(sys.argv[1])
     data = (vectors / "cases.bin").read_bytes()
@@ -138,7 +203,7 @@ def main():
     assert expected == "".join(line.split(" ", 2)[2].replace(" | ", "\n") + "\n" for line in lines)
 
     more = 0
-    for given, ended in [*full_lists(), *cells_of_each(), *why_it_failed(), *neighbours(), *one_loop_at_a_time()]:
+    for given, ended in [*full_lists(), *cells_of_each(), *why_it_failed(), *neighbours(), *one_loop_at_a_time(), *procedures()]:
         out = pairrun(given)
         assert out == ended, (out, ended)
         data += struct.pack("<I", len(given)) + given

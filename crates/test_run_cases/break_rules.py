@@ -6,7 +6,7 @@ pairs), test_pair_cases (`pairrun`), test_write_rooms and test_buffers (lent buf
 five programs; breakages.py has the breakages. A case notices one if the broken interpreter prints something else of it than the stored
 lines. Printed is a table: the rule, what is broken, how many cases of which program notice.
 
-Run as: break_rules.py [--all] [WORDS], about two minutes; WORDS leaves only the breakages whose line has them. Once ENOUGH cases notice a
+Run as: break_rules.py [--all] [WORDS], about four minutes; WORDS leaves only the breakages whose line has them. Once ENOUGH cases notice a
 breakage no more are tried, but with --all. The exit status is 1 if no case notices some breakage, and 2 if a patch no longer fits or an
 interpreter that is not broken does not print the stored lines.
 
@@ -217,7 +217,7 @@ def tried_on_runs(b, modules, cases):
     if b.continued:
         return
     for n, line in enumerate(cases.rooms):
-        yield "test_write_rooms", differs(b, line, modules[ROOMS].room, n)
+        yield "test_write_rooms", differs(b, line, modules[ROOMS].line_of, n)
     if b.reduces:
         for data, line in cases.files:
             yield "test_checked_files", differs(b, line, modules[RULES].line_of, data)

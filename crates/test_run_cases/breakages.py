@@ -322,7 +322,7 @@ SKIPPED = (
 )
 broken("2.7", "a failing row is left out and the run goes on", (GOES_ON, GOES_ON + SKIPPED), stops=True)
 COUNTED = "            state = following\n            steps += 1\n"
-SKIP = "steps += self.table.rows[state.row][0] != %d\n            state = following"
+SKIP = "steps += state.row in self.table.stops or self.table.rows[state.row][0] != %d\n            state = following"
 for kind, what in (
     (32, "a skip"),
     (33, "row 33"),
@@ -334,15 +334,18 @@ for kind, what in (
     (41, "row 41"),
     (38, "row 38"),
     (42, "row 42"),
+    (44, "a return"),
+    (45, "a call"),
 ):
     broken("2.16", "%s counts no step" % what, (COUNTED, "            " + SKIP % kind + "\n"), kinds={kind})
 LEFT_LOOP = (
-    "            steps += not (self.table.rows[state.row][0] == 39 and len(following.loops) < len(state.loops))\n"
+    "            steps += not (len(following.loops) < len(state.loops) and self.table.rows[state.row][0] == 39)\n"
     "            state = following\n"
 )
 broken("2.16", "a 39 that leaves counts no step", (COUNTED, LEFT_LOOP), kinds={39})
 PAST_END = (
-    "            steps += 1 + (self.table.rows[state.row][0] in (38, 42) and following.row > state.row + 1)\n"
+    "            opens = state.row not in self.table.stops and self.table.rows[state.row][0] in (38, 42)\n"
+    "            steps += 1 + (opens and following.row > state.row + 1)\n"
     "            state = following\n"
 )
 broken("2.16", "a loop not entered counts two steps", (COUNTED, PAST_END), kinds={38, 42})
@@ -463,13 +466,13 @@ broken("2.26", "39 of a 42 works out the end again", (AGAIN, NEW_END % 42 + AGAI
 broken(
     "2.27",
     "leaving keeps the loop open",
-    (AGAIN, "            if not %s:\n                state.loops.append([row, start, end])\n" % AGAIN.strip()),
+    (AGAIN, "            if not %s:\n                state.loops.append((row, start, end))\n" % AGAIN.strip()),
     kinds={39},
 )
 broken(
     "2.27",
     "39 keeps the old start",
-    (AGAIN, AGAIN + "            if state.row == row + 1:\n                state.loops[-1][1] = start\n"),
+    (AGAIN, AGAIN + "            if state.row == row + 1:\n                state.loops[-1] = (row, start, state.loops[-1][2])\n"),
     kinds={39},
 )
 broken("2.26", "39 repeats with start + 2", (AGAIN, AGAIN.replace("+ 1", "+ 2")), kinds={39})
@@ -502,12 +505,8 @@ for wrong in "SUM", "DIFFERENCE", "NO_ARRAY", "PAST":
         other = LARGEST.replace("COUNTER", "%s if self.table.rows[row][0] == %d else COUNTER" % (wrong, kind))
         broken("2.36", "start + 1 of a loop of %d has the reason %s" % (kind, wrong), (LARGEST, other), kinds={kind})
 
-ROWS_LEFT = "        while state.row < len(self.table.rows):\n"
-broken(
-    "2.28",
-    "out of steps is tested before done",
-    (ROWS_LEFT, "        while state.row < len(self.table.rows) or steps == limit:\n"),
-)
+ROWS_LEFT = "        while state.callers or state.row not in self.table.stops:\n"
+broken("2.28", "out of steps is tested before done", (ROWS_LEFT, ROWS_LEFT.replace(":\n", " or steps == limit:\n")))
 broken(
     "2.28",
     "a run takes a step more than its limit",
@@ -518,8 +517,8 @@ broken(
     "a run takes a step fewer than its limit",
     ("            if steps == limit:\n", "            if steps + 1 >= limit:\n"),
 )
-broken("2.28", "a run is done at its last row", (ROWS_LEFT, "        while state.row < len(self.table.rows) - 1:\n"))
-for end in ("assert", "assume", "fail", "room"):
+broken("2.28", "a run is done at its last row", (ROWS_LEFT, "        while state.callers or not {state.row, state.row + 1} & self.table.stops:\n"))
+for end in ("assert", "assume", "fail", "room", "deep"):
     broken(
         "2.29",
         "the step that ends by %s does not count" % end,
@@ -581,6 +580,198 @@ broken(
         "            start.row = 0\n            end, steps, state = run.run(start, limit)\n",
     ),
     continued=True,
+    stops=True,
+)
+
+# How a table runs: calls and returns
+
+CALLS = {"kinds": {45}, "stops": True}
+DEEP = '        if len(state.callers) == MOST_CALLERS:\n            raise Ended("deep")\n'
+broken("2.41", "a ninth call is made", (DEEP, DEEP.replace("MOST_CALLERS", "MOST_CALLERS + 1")), **CALLS)
+broken("2.41", "no call is too deep", (DEEP, ""), **CALLS)
+broken("2.41", "an eighth call is too deep", (DEEP, DEEP.replace("MOST_CALLERS", "MOST_CALLERS - 1")), **CALLS)
+broken("2.41", "a first call is too deep", (DEEP, DEEP.replace("== MOST_CALLERS", "in (0, MOST_CALLERS)")), **CALLS)
+ITSELF = DEEP.replace(":\n", " and state.callers[-1][0] == at:\n", 1)
+broken("2.41", "only a procedure that calls itself is too deep", (DEEP, ITSELF), **CALLS)
+broken("2.41", "a procedure that calls itself is too deep", (DEEP, DEEP.replace(":\n", " or procedure == self.table.home(at):\n", 1)), **CALLS)
+for end in "assert", "fail reason 5", "room", "done", "steps":
+    broken("2.29", "too deep ends as %s" % end, (DEEP, DEEP.replace('"deep"', '"%s"' % end)), **CALLS)
+CALLED = "            self.call(state, at, a, self.value(state, b))\n"
+EARLY_DEEP = DEEP.replace("        if", "            if").replace("            raise", "                raise")
+broken("2.41", "too deep comes before the node is worked out", (CALLED, EARLY_DEEP + CALLED), **CALLS)
+broken("2.40", "a call works out its node twice", (CALLED, "            self.value(state, b)\n" + CALLED), kinds={45})
+broken("2.40", "a call hands over 0", (CALLED, CALLED.replace("self.value(state, b)", "self.value(state, b) * 0")), kinds={45})
+AT_WORK = "        at_work = self.table.locals_of(self.table.home(at))\n"
+PUT_ASIDE = "        held = [state.variables[x] for x in at_work]\n"
+CLEARED_AT_CALL = "        for x in at_work:\n            state.variables[x] = 0\n"
+CHANGED = "                if e.args[0] == 'deep':\n                    state.variables = following.variables\n"
+broken(
+    "2.30",
+    "a call that is too deep sets the locals to 0",
+    (DEEP + AT_WORK + PUT_ASIDE, AT_WORK + PUT_ASIDE + CLEARED_AT_CALL + DEEP),
+    (ENDED, CHANGED + ENDED),
+    **CALLS,
+)
+DROPPED_AT_DEEP = "                if e.args[0] == 'deep':\n                    state.loops = []\n"
+broken("2.30", "a call that is too deep drops the loops", (ENDED, DROPPED_AT_DEEP + ENDED), **CALLS)
+DROPPED_AT_DEEP = "                if e.args[0] == 'deep':\n                    state.callers = state.callers[:-1]\n"
+broken("2.30", "a call that is too deep drops the last caller", (ENDED, DROPPED_AT_DEEP + ENDED), **CALLS)
+broken("2.40", "locals are not put aside", (PUT_ASIDE, "        held = [0 for _ in at_work]\n"), **CALLS)
+for part, what in ("[:1]", "first"), ("[-1:]", "last"):
+    lost = "        for x in at_work%s:\n            held[at_work.index(x)] = 0\n" % part
+    broken("2.40", "the %s local is not put aside" % what, (PUT_ASIDE, PUT_ASIDE + lost), **CALLS)
+broken("2.40", "locals stay at a call", (CLEARED_AT_CALL, ""), **CALLS)
+for part, what in ("[:1]", "first"), ("[-1:]", "last"):
+    stay = CLEARED_AT_CALL.replace("in at_work:", "in [x for x in at_work if x not in at_work%s]:" % part)
+    broken("2.40", "the %s local stays at a call" % what, (CLEARED_AT_CALL, stay), **CALLS)
+OTHERS = "        for x in others:\n            state.variables[x] = 0\n"
+OWN_STAY = CLEARED_AT_CALL.replace(":\n", " if self.table.home(at) != procedure else []:\n", 1)
+broken("2.40", "a procedure that calls itself keeps its other locals", (CLEARED_AT_CALL, OWN_STAY), (OTHERS, ""), **CALLS)
+APPENDED = "        state.callers.append((at, held, state.loops))\n"
+broken("2.40", "the caller's loops are not put aside", (APPENDED, APPENDED.replace("state.loops", "[]")), **CALLS)
+broken("2.40", "the caller's innermost loop alone is put aside", (APPENDED, APPENDED.replace("state.loops", "state.loops[-1:]")), **CALLS)
+broken("2.40", "the caller's outermost loop alone is put aside", (APPENDED, APPENDED.replace("state.loops", "state.loops[:1]")), **CALLS)
+broken("2.40", "the caller is put aside as the first", (APPENDED, APPENDED.replace("append((at", "insert(0, (at")), **CALLS)
+NONE_OPEN = "        state.loops = []\n        first, *others"
+broken("2.40", "the caller's loops stay open in the procedure", (NONE_OPEN, NONE_OPEN.replace("[]", "list(state.loops)")), **CALLS)
+HANDED = "        state.variables[first] = v\n"
+broken("2.40", "the argument goes to the second local", (HANDED + OTHERS, OTHERS + "        state.variables[(others or [first])[0]] = v\n"), **CALLS)
+broken("2.40", "the argument goes to the last local", (HANDED + OTHERS, OTHERS + "        state.variables[[first, *others][-1]] = v\n"), **CALLS)
+broken(
+    "2.40",
+    "the argument goes to every local",
+    (HANDED + OTHERS, "        for x in [first, *others]:\n            state.variables[x] = v\n"),
+    **CALLS,
+)
+broken("2.40", "the argument goes to no local", (HANDED, "        state.variables[first] = 0\n"), **CALLS)
+STARTS = "        state.row = self.table.procedures[procedure] + 1\n"
+broken("2.40", "a call goes to the 43", (STARTS, STARTS.replace(" + 1", "")), **CALLS)
+broken("2.40", "a call goes to the second row", (STARTS, STARTS.replace("+ 1", "+ 2")), **CALLS)
+broken("2.40", "a call goes to the first procedure", (STARTS, STARTS.replace("[procedure]", "[0]")), **CALLS)
+broken("1.19", "procedures are numbered from the last", (STARTS, STARTS.replace("[procedure]", "[-1 - procedure]")), **CALLS)
+
+LOCALS_LEFT = "        for x in self.table.locals_of(self.table.home(at)):\n            state.variables[x] = 0\n"
+broken("2.42", "locals stay at a return", (LOCALS_LEFT, ""), **CALLS)
+broken("2.42", "the first local stays at a return", (LOCALS_LEFT, LOCALS_LEFT.replace("(at)):", "(at))[1:]:")), **CALLS)
+broken("2.42", "the last local stays at a return", (LOCALS_LEFT, LOCALS_LEFT.replace("(at)):", "(at))[:-1]:")), **CALLS)
+BACK = "        row, held, loops = state.callers.pop()\n"
+broken("2.42", "a return goes to the first caller", (BACK, BACK.replace("pop()", "pop(0)")), **CALLS)
+broken("2.42", "a return drops all callers", (BACK, BACK + "        state.callers = []\n"), **CALLS)
+broken("2.42", "a return keeps the caller", (BACK, BACK.replace("pop()", "copy()[-1]")), **CALLS)
+RESTORED = "        for x, number in zip(self.table.locals_of(self.table.home(row)), held):\n            state.variables[x] = number\n"
+broken("2.42", "locals do not come back", (RESTORED, ""), **CALLS)
+broken(
+    "2.42",
+    "the first local does not come back",
+    (RESTORED, RESTORED.replace("= number", "= number if x != self.table.locals_of(self.table.home(row))[0] else 0")),
+    **CALLS,
+)
+broken(
+    "2.42",
+    "the last local does not come back",
+    (RESTORED, RESTORED.replace("= number", "= number if x != self.table.locals_of(self.table.home(row))[-1] else 0")),
+    **CALLS,
+)
+LOOPS_BACK = "        state.loops = list(loops)\n"
+broken("2.42", "the caller's loops do not come back", (LOOPS_BACK, "        state.loops = []\n"), **CALLS)
+broken("2.42", "the procedure's loops stay open", (LOOPS_BACK, "        state.loops = list(loops) + state.loops\n"), **CALLS)
+broken("2.42", "the procedure's loops stay in place of the caller's", (LOOPS_BACK, ""), **CALLS)
+broken("2.42", "a return drops the innermost loop alone", (LOOPS_BACK, "        state.loops = list(loops) + state.loops[:-1]\n"), **CALLS)
+RESULT = "        state.variables[self.table.rows[row][3]] = v\n"
+broken("2.42", "the result is set before the locals come back", (RESTORED, RESULT + RESTORED), (LOOPS_BACK + RESULT, LOOPS_BACK), **CALLS)
+broken(
+    "2.42",
+    "the result is set before the locals become 0",
+    (BACK, ""),
+    (LOCALS_LEFT, BACK + RESULT + LOCALS_LEFT),
+    (LOOPS_BACK + RESULT, LOOPS_BACK),
+    **CALLS,
+)
+broken("2.42", "the result goes nowhere", (RESULT, ""), **CALLS)
+broken("2.42", "the result is 0", (RESULT, RESULT.replace("= v", "= 0")), **CALLS)
+broken("2.42", "a result of 0 is not set", (RESULT, "        if v:\n    " + RESULT), **CALLS)
+broken("2.42", "the result goes to variable 0", (RESULT, RESULT.replace("self.table.rows[row][3]", "0")), **CALLS)
+AFTER = RESULT + "        state.row = row + 1\n"
+broken("2.42", "a return goes to the 45", (AFTER, AFTER.replace("row + 1", "row")), **CALLS)
+broken("2.42", "a return goes two rows past the 45", (AFTER, AFTER.replace("row + 1", "row + 2")), **CALLS)
+LOST = "        for r, _, _ in state.loops:\n            state.variables[self.table.rows[r][1]] = 0\n"
+broken("2.42", "the iterator of a dropped loop becomes 0", (LOCALS_LEFT, LOST + LOCALS_LEFT), **CALLS)
+LAST = "        for r, _, end in state.loops:\n            if self.table.rows[r][0] == 38:\n"
+LAST += "                state.variables[self.table.rows[r][1]] = end\n"
+broken("2.42", "the iterator of a dropped loop gets its end", (LOCALS_LEFT, LAST + LOCALS_LEFT), **CALLS)
+SET_BACK = "        for r, start, _ in loops:\n"
+SET_BACK += "            held = start if self.table.rows[r][0] == 38 or self.writer else class_of(start, self.pair)\n"
+SET_BACK += "            state.variables[self.table.rows[r][1]] = held\n"
+broken("2.44", "the iterators of the caller's loops come back", (LOOPS_BACK, LOOPS_BACK + SET_BACK), **CALLS)
+for kinds, what in ("(BOOL,)", "bools"), ("(POINTER,)", "pointers"), ("(UINT,)", "global uints"):
+    keeps = "        kept = {x: y for x, y in enumerate(state.variables) if self.table.declarations[x][0] in %s and x not in at_work}\n" % kinds
+    come = "        for x, y in kept.items():\n            state.variables[x] = y\n"
+    broken(
+        "2.44",
+        "%s are put aside" % what,
+        (PUT_ASIDE, PUT_ASIDE + keeps),
+        (APPENDED, APPENDED.replace("state.loops", "state.loops, kept")),
+        (BACK, BACK.replace("loops", "loops, kept")),
+        (RESULT, come + RESULT),
+        **CALLS,
+    )
+broken(
+    "2.44",
+    "the arrays of a procedure are dropped",
+    (APPENDED, APPENDED.replace("state.loops", "state.loops, len(state.arrays)")),
+    (BACK, BACK.replace("loops", "loops, made") + "        del state.arrays[made:]\n"),
+    **CALLS,
+)
+
+FALLS = "        if at in self.table.stops:\n            self.give_back(state, at, 0)\n            return\n"
+broken("2.43", "falling off returns 1", (FALLS, FALLS.replace("at, 0", "at, 1")), **CALLS)
+PARAMETER = "state.variables[self.table.locals_of(self.table.home(at))[0]]"
+broken("2.43", "falling off returns the parameter", (FALLS, FALLS.replace("at, 0", "at, " + PARAMETER)), **CALLS)
+KEPT_RESULT = "state.variables[self.table.rows[state.callers[-1][0]][3]]"
+broken("2.43", "falling off leaves the variable of the 45", (FALLS, FALLS.replace("at, 0", "at, " + KEPT_RESULT)), **CALLS)
+broken(
+    "2.43",
+    "falling off takes a choice",
+    (FALLS, FALLS.replace("            self.give", "            if self.pair:\n                self.choice(0)\n            self.give")),
+    **CALLS,
+)
+INTO = FALLS.replace("in self.table.stops", "== len(self.table.rows)")
+broken("2.43", "a procedure runs into the next", (FALLS, INTO), **CALLS)
+ENDS_THERE = '            if at == len(self.table.rows):\n                raise Ended("done")\n            self.give'
+ENDS_THERE = FALLS.replace("            self.give", ENDS_THERE)
+broken("2.43", "a run ends at the row count, with callers or none", (FALLS, ENDS_THERE), **CALLS)
+UNCOUNTED = "            steps += state.row not in self.table.stops\n            state = following\n"
+broken("2.43", "falling off counts no step", (COUNTED, UNCOUNTED), **CALLS)
+broken(
+    "2.43",
+    "falling off counts two steps",
+    (COUNTED, UNCOUNTED.replace("state.row not in", "1 + (state.row in").replace("stops\n", "stops)\n", 1)),
+    **CALLS,
+)
+EMPTY = "            steps += not (state.row in self.table.stops and state.row - 1 in self.table.stops)\n            state = following\n"
+broken("2.43", "a call of a procedure with no rows is one step", (COUNTED, EMPTY), **CALLS)
+OUT = "            if steps == limit:\n"
+broken("2.43", "falling off is taken also with the limit reached", (OUT, OUT.replace(":\n", " and state.row not in self.table.stops:\n")), **CALLS)
+broken("2.28", "a run is done at a 43, with callers or none", (ROWS_LEFT, "        while state.row not in self.table.stops:\n"), **CALLS)
+OVER_43 = FALLS.replace("in self.table.stops:", "in self.table.stops and state.callers:")
+broken(
+    "2.28",
+    "main goes on past the first 43",
+    (ROWS_LEFT, "        while state.callers or state.row < len(self.table.rows):\n"),
+    (FALLS, OVER_43),
+    kinds={43},
+    stops=True,
+)
+HOME = "        above = [p for p, r in enumerate(self.procedures) if r < row]\n"
+broken("1.20", "the row of a 43 belongs to the procedure that it opens", (HOME, HOME.replace("<", "<=")), kinds={43}, stops=True)
+broken("1.20", "the row after a 43 belongs to what is before it", (HOME, HOME.replace("r < row", "r + 1 < row")), kinds={43}, stops=True)
+RANGE = "        return list(range(first, first + count))\n"
+broken("1.21", "the last local is global", (RANGE, RANGE.replace("first + count", "first + max(count - 1, 1)")), kinds={43}, stops=True)
+broken(
+    "1.21",
+    "the variable after the locals is one too",
+    (RANGE, RANGE.replace("first + count", "first + count + (first + count < len(self.declarations))")),
+    kinds={43},
     stops=True,
 )
 
@@ -650,6 +841,10 @@ broken(
     stops=True,
     reduces=True,
 )
+IN_PROCEDURES = LINES.replace("kind(k, a), a", "k if i > at else kind(k, a), a")
+IN_PROCEDURES = IN_PROCEDURES.replace("for k, a, b, c in self.lines", "for i, (k, a, b, c) in enumerate(self.lines)")
+FIRST_43 = "        at = min([i for i, line in enumerate(self.lines) if line[0] == 43], default=len(self.lines))\n"
+broken("3.4", "the rows of procedures stay", (LINES, FIRST_43 + IN_PROCEDURES), kinds={43}, stops=True, reduces=True)
 
 TAKES = "            return self.choice(held, None if self.writer else held)\n"
 broken("3.13", "27 takes no choice and is the class", (TAKES, "            return held\n"), kinds={27})
@@ -835,12 +1030,12 @@ broken(
     (PAIR_TAKEN, "            start = self.in_class(start)\n            self.in_class(end)\n"),
     kinds={42},
 )
-KEEPS = "        state.loops.append([row, start, end])\n"
+KEEPS = "        state.loops.append((row, start, end))\n"
 TRUE = (
     "        kind, iterator, _, _ = self.table.rows[row]\n",
     "        kind, iterator, _, _ = self.table.rows[row]\n        true = start, end\n",
 )
-broken("3.20", "the true start and end of 42 are kept", TRUE, (KEEPS, "        state.loops.append([row, *true])\n"), kinds={42})
+broken("3.20", "the true start and end of 42 are kept", TRUE, (KEEPS, "        state.loops.append((row, *true))\n"), kinds={42})
 broken("3.20", "42 goes by the true start and end", TRUE, (ENTERS, ENTERS.replace("start > end", "true[0] > true[1]")), kinds={42})
 broken(
     "3.20",
@@ -1339,17 +1534,17 @@ broken(
     (AROUND, AROUND.replace("sorted(table.ends)", "sorted(table.ends, reverse=True)")),
     **RECORD,
 )
-OPEN = "    if open_ != len(around) or record[LOOP_ROW][:open_] != around:\n"
+OPEN = "    if open_ != len(around) or rows[:open_] != around:\n"
 broken(
     "7.3",
     "the number of open loops is not tested",
-    (OPEN, "    if record[LOOP_ROW][:len(around)] != around:\n"),
+    (OPEN, "    if rows[:len(around)] != around:\n"),
     **RECORD,
 )
 broken(
     "7.3",
     "more open loops than those around pass",
-    (OPEN, "    if open_ < len(around) or record[LOOP_ROW][:len(around)] != around:\n"),
+    (OPEN, "    if open_ < len(around) or rows[:len(around)] != around:\n"),
     **RECORD,
 )
 broken("7.3", "the rows of the open loops are not tested", (OPEN, "    if open_ != len(around):\n"), **RECORD)
@@ -1365,23 +1560,14 @@ broken(
     (OPEN, OPEN.replace("[:open_] != around", "[1:open_] != around[1:]")),
     **RECORD,
 )
-LIMITS = "    if any(start > end for _, start, end in loops) or count > 16:\n"
-broken("7.4", "a start above its end passes", (LIMITS, "    if count > 16:\n"), **RECORD)
-broken("7.4", "a start at its end is refused", (LIMITS, LIMITS.replace("start > end", "start >= end")), **RECORD)
-broken(
-    "7.4",
-    "only the innermost start is tested",
-    (LIMITS, LIMITS.replace("in loops)", "in loops[-1:])")),
-    **RECORD,
-)
-broken(
-    "7.4",
-    "only the outermost start is tested",
-    (LIMITS, LIMITS.replace("in loops)", "in loops[:1])")),
-    **RECORD,
-)
-broken("7.8", "17 arrays pass", (LIMITS, LIMITS.replace("16", "17")), **RECORD)
-broken("7.8", "16 arrays are refused", (LIMITS, LIMITS.replace("16", "15")), **RECORD)
+STARTED = "    if any(start > end for _, start, end in loops):\n"
+broken("7.4", "a start above its end passes", (STARTED, "    if False:\n"), **RECORD)
+broken("7.4", "a start at its end is refused", (STARTED, STARTED.replace("start > end", "start >= end")), **RECORD)
+broken("7.4", "only the innermost start is tested", (STARTED, STARTED.replace("in loops)", "in loops[-1:])")), **RECORD)
+broken("7.4", "only the outermost start is tested", (STARTED, STARTED.replace("in loops)", "in loops[:1])")), **RECORD)
+FEW = "    if loops is None or count > 16:\n"
+broken("7.8", "17 arrays pass", (FEW, FEW.replace("16", "17")), **RECORD)
+broken("7.8", "16 arrays are refused", (FEW, FEW.replace("16", "15")), **RECORD)
 IN_SEQUENCE = "        if first != following or reduced and pair is None:\n"
 broken(
     "7.9",
@@ -1519,7 +1705,135 @@ broken(
     ("        if pair is not None and table.marked(v, UINT):\n", "        if pair is not None and kind == UINT:\n"),
     **RECORD,
 )
-FITS = "    return State(row, loops, variables, arrays)\n\n\ndef check_number"
+# Check 15 of the callers
+
+CALLERS = {**RECORD, "kinds": {45}}
+FEW_CALLERS = "    if record[DEPTH][0] > MOST_CALLERS:\n        return None\n    for d in range(record[DEPTH][0]):\n"
+broken("7.15", "nine callers pass", (FEW_CALLERS, FEW_CALLERS.replace("MOST_CALLERS", "MOST_CALLERS + 1")), **CALLERS)
+broken("7.15", "eight callers are refused", (FEW_CALLERS, FEW_CALLERS.replace(">", ">=")), **CALLERS)
+broken("7.15", "callers past the eighth are no part", (FEW_CALLERS, "    for d in range(min(record[DEPTH][0], MOST_CALLERS)):\n"), **CALLERS)
+broken("7.15", "the number of callers is one of 8 bits", (FEW_CALLERS, FEW_CALLERS.replace("record[DEPTH][0]", "record[DEPTH][0] % 256")), **CALLERS)
+broken(
+    "7.15",
+    "the number of callers is one of 31 bits",
+    (FEW_CALLERS, FEW_CALLERS.replace("record[DEPTH][0]", "record[DEPTH][0] % 2**31")),
+    **CALLERS,
+)
+IS_CALL = "        if row >= len(table.rows) or table.rows[row][0] != 45:\n"
+broken("7.16", "a caller's row may be of any kind", (IS_CALL, "        if row >= len(table.rows):\n"), **CALLERS)
+broken("7.16", "the first caller's row may be of any kind", (IS_CALL, IS_CALL.replace("or table", "or d and table")), **CALLERS)
+broken("7.16", "a later caller's row may be of any kind", (IS_CALL, IS_CALL.replace("or table", "or not d and table")), **CALLERS)
+for kind in 32, 33, 38, 39, 43, 44:
+    broken("7.16", "a caller's row may be a %d" % kind, (IS_CALL, IS_CALL.replace("!= 45", "not in (45, %d)" % kind)), **CALLERS)
+PAST_ROWS = IS_CALL.replace("row >= len(table.rows) or table.rows[row][0]", "table.rows[row % len(table.rows)][0]")
+broken("7.16", "a caller's row past the table is taken from its front", (IS_CALL, "        row %= len(table.rows)\n" + PAST_ROWS), **CALLERS)
+IN_CALLED = "        if table.home(row) != called:\n            return None\n        loops"
+broken("7.16", "a caller's row may be anywhere", (IN_CALLED, "        loops"), **CALLERS)
+broken("7.16", "the first caller's row may be anywhere", (IN_CALLED, IN_CALLED.replace("if table", "if d and table")), **CALLERS)
+broken("7.16", "a later caller's row may be anywhere", (IN_CALLED, IN_CALLED.replace("if table", "if not d and table")), **CALLERS)
+broken("7.16", "a later caller's row may be in main", (IN_CALLED, IN_CALLED.replace("!= called", "not in (None, called)")), **CALLERS)
+broken(
+    "7.16",
+    "a later caller's row may be in any procedure",
+    (IN_CALLED, IN_CALLED.replace("table.home(row) != called", "(table.home(row) is None) != (called is None)")),
+    **CALLERS,
+)
+for d in 1, 2, 7:
+    broken("7.16", "caller %d may stand anywhere" % d, (IN_CALLED, IN_CALLED.replace("if table", "if d != %d and table" % d)), **CALLERS)
+WORKS = "    if table.home(row) != called:\n        return None\n    idle"
+broken("7.16", "the row may be anywhere", (WORKS, "    idle"), **CALLERS)
+broken("7.16", "with no callers the row may be anywhere", (WORKS, WORKS.replace("if table", "if callers and table")), **CALLERS)
+broken("7.16", "with callers the row may be anywhere", (WORKS, WORKS.replace("if table", "if not callers and table")), **CALLERS)
+broken("7.16", "with callers the row may be in main", (WORKS, WORKS.replace("!= called", "not in (None, called)")), **CALLERS)
+broken(
+    "7.16",
+    "with no callers the row of the first 43 is refused",
+    (WORKS, WORKS.replace("if table", "if not callers and row in table.procedures or table")),
+    **CALLERS,
+)
+broken("7.16", "the end of a procedure is refused", (WORKS, WORKS.replace("if table", "if callers and row in table.stops or table")), **CALLERS)
+broken(
+    "7.16",
+    "the row count is refused with callers",
+    (WORKS, WORKS.replace("if table", "if callers and row == len(table.rows) or table")),
+    **CALLERS,
+)
+IN_LOOPS = "        loops = open_loops(table, row, open_, words[6:14], words[14:22], words[22:])\n"
+AROUND_CALL = "        expected = [r for r in sorted(table.ends) if r < row <= table.ends[r]]\n"
+AS_KEPT = "list(zip(words[6:14], words[14:22], words[22:]))[:open_]"
+broken("7.17", "a caller's loops are not tested", (IN_LOOPS, "        loops = %s\n" % AS_KEPT), **CALLERS)
+for d, what in ("d == 0", "the first caller"), ("d == 1", "the second caller"), ("d", "a later caller"), ("d == 7", "the eighth caller"):
+    broken("7.17", "the loops of %s are not tested" % what, (IN_LOOPS, IN_LOOPS.replace("= open", "= %s if %s else open" % (AS_KEPT, d))), **CALLERS)
+broken("7.17", "how many loops a caller has is not tested", (IN_LOOPS, AROUND_CALL + IN_LOOPS.replace("open_,", "len(expected),")), **CALLERS)
+broken(
+    "7.17",
+    "a caller may have more loops than those around",
+    (IN_LOOPS, AROUND_CALL + IN_LOOPS.replace("open_,", "min(open_, len(expected)),")),
+    **CALLERS,
+)
+broken("7.17", "the rows of a caller's loops are not tested", (IN_LOOPS, AROUND_CALL + IN_LOOPS.replace("words[6:14]", "expected")), **CALLERS)
+ONE_ROW = AROUND_CALL + IN_LOOPS.replace("words[6:14]", "expected[:1] + words[7:14]")
+broken("7.17", "the row of a caller's outermost loop is not tested", (IN_LOOPS, ONE_ROW), **CALLERS)
+ONE_ROW = AROUND_CALL + IN_LOOPS.replace("words[6:14]", "words[6 : 5 + len(expected)] + expected[-1:]")
+broken("7.17", "the row of a caller's innermost loop is not tested", (IN_LOOPS, ONE_ROW), **CALLERS)
+TESTED_WITH = "        loops = open_loops(table, row, open_, words[6:14], %s, words[22:])\n        loops = loops and " + AS_KEPT + "\n"
+broken("7.17", "a start above its end passes in a caller", (IN_LOOPS, TESTED_WITH % "[0] * 8"), **CALLERS)
+broken(
+    "7.17",
+    "only the innermost start of a caller is tested",
+    (IN_LOOPS, TESTED_WITH % "([0] * 7 + [words[13 + open_]])[8 - open_ :] + [0] * 8"),
+    **CALLERS,
+)
+broken("7.17", "only the outermost start of a caller is tested", (IN_LOOPS, TESTED_WITH % "[words[14]] + [0] * 7"), **CALLERS)
+AT_END = IN_LOOPS + "        if loops and any(start == end for _, start, end in loops):\n            return None\n"
+broken("7.17", "a start at its end is refused in a caller", (IN_LOOPS, AT_END), **CALLERS)
+IDLE = "    idle = [v for p in range(len(table.procedures)) if p != called for v in table.locals_of(p)]\n"
+broken("7.18", "a local that is not at work may hold a number", (IDLE, "    idle = []\n"), **CALLERS)
+AMONG = "[table.home(r) for r, _, _ in callers]"
+broken(
+    "7.18",
+    "a local of a caller's procedure may hold a number",
+    (IDLE, IDLE.replace("if p != called", "if p != called and p not in " + AMONG)),
+    **CALLERS,
+)
+broken(
+    "7.18",
+    "a local of a procedure that is no caller's may hold a number",
+    (IDLE, IDLE.replace("if p != called", "if p != called and p in " + AMONG)),
+    **CALLERS,
+)
+broken("7.18", "only first locals are tested", (IDLE, IDLE.replace("locals_of(p)]", "locals_of(p)[:1]]")), **CALLERS)
+broken("7.18", "last locals are not tested", (IDLE, IDLE.replace("locals_of(p)]", "locals_of(p)[:-1]]")), **CALLERS)
+broken("7.18", "with no callers a local may hold a number", (IDLE, IDLE.replace("if p != called", "if p != called is not None")), **CALLERS)
+broken(
+    "7.18",
+    "with callers a local that is not at work may hold a number",
+    (IDLE, IDLE.replace("if p != called", "if p != called is None")),
+    **CALLERS,
+)
+broken("7.18", "a local at work may hold no number", (IDLE, IDLE.replace(" if p != called", "")), **CALLERS)
+broken("7.18", "the parameter at work may be 0 alone", (IDLE, IDLE + "    idle += table.locals_of(called)[:1]\n"), **CALLERS)
+KEEPS_15 = "        callers.append((row, held, loops))\n"
+broken("7.12", "kept locals must be 0", (KEEPS_15, "        if any(held):\n            return None\n" + KEEPS_15), **CALLERS)
+broken(
+    "7.13",
+    "words past a caller's locals are tested",
+    (KEEPS_15, "        if any(words[2 + len(held) : 6]):\n            return None\n" + KEEPS_15),
+    **CALLERS,
+)
+broken(
+    "7.13",
+    "words past a caller's loops are tested",
+    (KEEPS_15, "        if any(words[6 + open_ : 14]) or any(words[14 + open_ : 22]):\n            return None\n" + KEEPS_15),
+    **CALLERS,
+)
+PAST_CALLERS = "    if any(record[STACK][30 * record[DEPTH][0] :]):\n        return None\n    return callers, called\n"
+broken("7.13", "words past the callers are tested", ("    return callers, called\n", PAST_CALLERS), **CALLERS)
+FOUR = "held = words[0], words[1], words[2 : 2 + len(table.locals_of(called))]\n"
+broken("2.39", "a caller has four locals whatever its procedure has", (FOUR, "held = words[0], words[1], words[2:6]\n"), **CALLERS)
+broken("2.39", "main keeps a local", (FOUR, FOUR.replace("len(table.locals_of(called))", "max(1, len(table.locals_of(called)))")), **CALLERS)
+
+FITS = "    return State(row, loops, variables, arrays, callers)\n\n\ndef check_number"
 ITERATOR = "    if any(table.rows[r][0] == 38 and variables[table.rows[r][1]] != start for r, start, _ in loops):\n        return None\n"
 broken("7.12", "an iterator that is not its kept start is refused", (FITS, ITERATOR + FITS), **RECORD)
 ITERATOR = (
@@ -1553,7 +1867,7 @@ broken("6.21", "the plain machine takes 4,128 cells too", (SIZE_14, SIZE_14.repl
 broken("6.21", "the reduced machine takes 4,112 cells too", (SIZE_14, SIZE_14.replace(":\n", " and lent != 4112:\n")), stops=True)
 broken("6.21", "the reduced machine takes 4,096 cells too", (SIZE_14, SIZE_14.replace(":\n", " and lent != 4096:\n")), stops=True)
 broken("6.2", "14 comes before 13", (SIZE_14, SIZE_14.replace("checked is None", "(checked is None or checked[0] == 13)")))
-for test, what in ("not in (13, 14)", "the table's checks"), ("== 16", "16"):
+for test, what in ("not in (13, 14)", "the table's checks"), ("== 16", "16"), ("== 17", "17"):
     early = "(checked is None or checked[0] %s)" % test
     broken("6.2", "14 comes before %s" % what, (SIZE_14, SIZE_14.replace("checked is None", early)))
     broken("6.2", "13 comes before %s" % what, (PAIR_13, PAIR_13.replace("checked is None", early)))
@@ -1562,6 +1876,7 @@ for number, what in (
     ("checked[0] == 14", "14"),
     ("checked[0] == 13", "13"),
     ("checked[0] == 16", "16"),
+    ("checked[0] == 17", "17"),
     ("checked[0] not in (13, 14)", "the table's checks"),
 ):
     fifteen = (
@@ -1785,7 +2100,7 @@ broken(
     ("            return (number, place)\n    return None\n", "            return (number, place)\n    return (4, 0) if left else None\n"),
     file=RULES,
 )
-NUMBERS = (5, 6, 7, 8, 9, 10, 11, 12, 16)
+NUMBERS = (5, 6, 7, 8, 9, 10, 11, 12, 16, 17)
 ORDER = "ORDER = %s\n" % (NUMBERS,)
 for before, n in zip(NUMBERS, NUMBERS[1:]):
     broken(
@@ -1906,7 +2221,7 @@ broken(
 
 KNOWN = "        self.known = REDUCED_KINDS if reduced else PLAIN_KINDS\n"
 KIND_TABLES = "class Checked:\n"
-for plain, kinds in (True, (0, 4, 15, 27, 28, 29, 30, 31, 40, 41, 42, 43)), (False, (0, 4, 15, 19, 26, 30, 31, 34, 43)):
+for plain, kinds in (True, (0, 4, 15, 27, 28, 29, 30, 31, 40, 41, 42, 46)), (False, (0, 4, 15, 19, 26, 30, 31, 34, 46)):
     for kind in kinds:
         more = (KIND_TABLES, "ROLES.setdefault(%d, '000')\nTYPES.setdefault(%d, {(): None})\n\n\n" % (kind, kind) + KIND_TABLES)
         what = "%d is known in a %s table" % (kind, "plain" if plain else "reduced")
@@ -1919,8 +2234,8 @@ for plain, kinds in (True, (0, 4, 15, 27, 28, 29, 30, 31, 40, 41, 42, 43)), (Fal
             refused={5},
         )
 for plain, kinds in (
-    (True, [1, 2, 3, *range(16, 27), *range(32, 40)]),
-    (False, [1, 2, 3, 16, 17, 18, *range(20, 26), 27, 28, 29, 32, 33, *range(35, 43)]),
+    (True, [1, 2, 3, *range(16, 27), *range(32, 40), *range(43, 46)]),
+    (False, [1, 2, 3, 16, 17, 18, *range(20, 26), 27, 28, 29, 32, 33, *range(35, 46)]),
 ):
     for kind in kinds:
         what = "%d is unknown in a %s table" % (kind, "plain" if plain else "reduced")
@@ -1962,6 +2277,7 @@ ALL_ROLES = {1: "000", 2: "m00", 3: "m00", 16: "v00", 17: "c00", 18: "f00", 19: 
 ALL_ROLES.update({27: "v00", 28: "n00", 29: "n00"})
 ALL_ROLES.update({kind: "nn0" for kind in (20, 21, 22, 23, 24, 34, 40)})
 ALL_ROLES.update({32: "000", 33: "vn0", 35: "n00", 36: "n00", 37: "vn0", 38: "vnn", 39: "000", 41: "vn0", 42: "vnn"})
+ALL_ROLES.update({43: "lk0", 44: "n00", 45: "pnv"})
 NAMES = "abc"
 
 
@@ -2260,7 +2576,13 @@ broken("6.23", "33 to the iterator of an open loop is refused", (OPENS_16, SETS_
 broken("6.23", "a plain table is not tested", (IN_16, IN_16.replace("\n", " and self.reduced\n")), file=RULES, refused={16})
 broken("6.23", "a reduced table is not tested", (IN_16, IN_16.replace("\n", " and not self.reduced\n")), file=RULES, refused={16})
 broken("6.23", "marked iterators may be shared", (IN_16, IN_16.replace("\n", " and self.declarations[a][1] == 0\n")), file=RULES, refused={16})
-broken("6.23", "iterators that are not marked may be shared", (IN_16, IN_16.replace("\n", " and self.declarations[a][1] == 1\n")), file=RULES, refused={16})
+broken(
+    "6.23",
+    "iterators that are not marked may be shared",
+    (IN_16, IN_16.replace("\n", " and self.declarations[a][1] == 1\n")),
+    file=RULES,
+    refused={16},
+)
 broken("6.23", "any loop in a loop is refused", (IN_16, "            return len(iterators) > 1\n"), file=RULES)
 broken(
     "6.23",
@@ -2278,15 +2600,236 @@ broken(
 )
 REACHED_16 = " and not any(k == 35 and self.nodes[n] == (18, 0, 0, 0) for k, n, _, _ in self.lines[:i])\n"
 broken("6.23", "a row after an assert of false is not tested", (IN_16, IN_16.replace("\n", REACHED_16)), file=RULES, refused={16})
+for n in 16, 17:
+    broken(
+        "6.2",
+        "13 comes before %d" % n,
+        (
+            "    if refusal is None:\n        refusal = check_pair(c1, c2)\n    return refusal, lines\n",
+            "    if refusal is None or refusal[0] == %d:\n        refusal = check_pair(c1, c2) or refusal\n    return refusal, lines\n" % n,
+        ),
+        file=RULES,
+        refused={n},
+    )
+OF_17 = {"file": RULES, "refused": {17}}
+LAST_17 = "            return any(owners.get(v, home) != home for v in uses(line))\n"
+broken("6.24", "17 is not tested", (LAST_17 + "\n        return self.first(breaks)\n", LAST_17 + "\n        return None\n"), **OF_17)
+MOST_17 = "MOST_PROCEDURES, MOST_LOCALS = 16, 4\n"
+broken("6.24", "seventeen procedures pass", (MOST_17, MOST_17.replace("16", "17")), **OF_17)
+broken("6.24", "sixteen procedures are refused", (MOST_17, MOST_17.replace("16", "15")), file=RULES)
+OPENS_17 = "            if home >= MOST_PROCEDURES or loops > 0 or not 1 <= b <= MOST_LOCALS:\n"
+broken("6.24", "any number of procedures passes", (OPENS_17, OPENS_17.replace("home >= MOST_PROCEDURES or ", "")), **OF_17)
+broken("6.24", "a procedure may open in a loop", (OPENS_17, OPENS_17.replace("loops > 0 or ", "")), **OF_17)
+broken("6.24", "a procedure may open in one loop", (OPENS_17, OPENS_17.replace("loops > 0", "loops > 1")), **OF_17)
+LOOPS_17 = "            loops += (kind in (38, 42)) - (kind == 39)\n"
+broken("6.24", "a closed loop counts as open", (LOOPS_17, LOOPS_17.replace(" - (kind == 39)", "")), file=RULES)
+broken("6.24", "38 opens no loop for 17", (LOOPS_17, LOOPS_17.replace("in (38, 42)", "== 42")), **OF_17)
+broken("6.24", "42 opens no loop for 17", (LOOPS_17, LOOPS_17.replace("in (38, 42)", "== 38")), **OF_17)
+broken("6.24", "only the loops of main count for 17", (LOOPS_17, "            if home is None:\n    " + LOOPS_17), **OF_17)
+broken("6.24", "any count of locals passes", (OPENS_17, OPENS_17.replace(" or not 1 <= b <= MOST_LOCALS", "")), **OF_17)
+broken("6.24", "no locals pass", (OPENS_17, OPENS_17.replace("1 <= b", "0 <= b")), **OF_17)
+broken("6.24", "five locals pass", (MOST_17, MOST_17.replace("4", "5")), **OF_17)
+broken("6.24", "four locals are refused", (MOST_17, MOST_17.replace("4", "3")), file=RULES)
+broken("6.24", "one local is refused", (OPENS_17, OPENS_17.replace("1 <= b", "2 <= b")), file=RULES)
+MARKS_17 = "            return any(self.marked(v) or owners.get(v, home) < home for v in listed)\n"
+broken("6.24", "a local may be marked", (MARKS_17, MARKS_17.replace("self.marked(v) or ", "")), **OF_17)
+broken("6.24", "only the parameter may not be marked", (MARKS_17, MARKS_17.replace("self.marked(v)", "v == a and self.marked(v)")), **OF_17)
+broken("6.24", "the last local may be marked", (MARKS_17, MARKS_17.replace("self.marked(v)", "v < a + b - 1 and self.marked(v)")), **OF_17)
+broken("6.24", "a local may be an earlier 43's", (MARKS_17, MARKS_17.replace(" or owners.get(v, home) < home", "")), **OF_17)
 broken(
-    "6.2",
-    "13 comes before 16",
+    "6.24",
+    "only the parameter may not be an earlier 43's",
+    (MARKS_17, MARKS_17.replace("owners.get(v, home) < home", "v == a and owners.get(v, home) < home")),
+    **OF_17,
+)
+broken(
+    "6.24",
+    "the last local may be an earlier 43's",
+    (MARKS_17, MARKS_17.replace("owners.get(v, home) < home", "v < a + b - 1 and owners.get(v, home) < home")),
+    **OF_17,
+)
+broken(
+    "6.24",
+    "a local may be a 43's before the last",
+    (MARKS_17, MARKS_17.replace("owners.get(v, home) < home", "owners.get(v, home) == home - 1")),
+    **OF_17,
+)
+RETURNS_17 = "            if kind == 44 and home is None:\n"
+broken("6.24", "a return may stand in main", (RETURNS_17, "            if False:\n"), **OF_17)
+broken("6.24", "a return may stand in main before a 43", (RETURNS_17, RETURNS_17.replace("home is None", "not self.procedures")), **OF_17)
+broken("6.24", "a return in a procedure is refused", (RETURNS_17, RETURNS_17.replace("home is None", "home is not None")), file=RULES)
+NUMBER_17 = "            if kind == 45 and (a >= len(self.procedures) or self.marked(c)):\n"
+broken("6.24", "a call of no procedure passes", (NUMBER_17, NUMBER_17.replace("a >= len(self.procedures) or ", "")), **OF_17)
+broken("6.24", "a call may name the number of procedures", (NUMBER_17, NUMBER_17.replace("a >= len", "a > len")), **OF_17)
+broken(
+    "6.24",
+    "a call may name a procedure above it alone",
+    (NUMBER_17, NUMBER_17.replace("a >= len(self.procedures)", "a > (-1 if home is None else home)")),
+    file=RULES,
+)
+broken(
+    "6.24",
+    "a call of the seventeenth procedure is a fault of its own",
+    (NUMBER_17, NUMBER_17.replace("a >= len(self.procedures)", "a >= min(len(self.procedures), 16)")),
+    **OF_17,
+)
+broken("6.24", "the number of a procedure is compared with a sign", (NUMBER_17, NUMBER_17.replace("a >= len", "2**31 > a >= len")), **OF_17)
+broken("6.24", "the result may go to a marked variable", (NUMBER_17, NUMBER_17.replace(" or self.marked(c)", "")), **OF_17)
+broken(
+    "6.24",
+    "12 refuses a 45 to a marked variable",
+    (ROW_12, "            if kind == 45 and (at(self.declarations, line[3]) or (0, 0))[:2] == (UINT, 1):\n                return True\n" + ROW_12),
+    **OF_17,
+)
+broken("6.24", "uses are not tested", (LAST_17, "            return False\n"), **OF_17)
+broken("6.24", "uses in main are not tested", (LAST_17, LAST_17.replace("return any", "return home is not None and any")), **OF_17)
+broken("6.24", "uses in procedures are not tested", (LAST_17, LAST_17.replace("return any", "return home is None and any")), **OF_17)
+broken(
+    "6.24",
+    "a local of a later procedure may be used",
+    (LAST_17, LAST_17.replace("owners.get(v, home) != home", "home is not None and owners.get(v, home) < home or home is None and v in owners")),
+    **OF_17,
+)
+broken(
+    "6.24",
+    "a local of an earlier procedure may be used",
+    (LAST_17, LAST_17.replace("owners.get(v, home) != home", "owners.get(v, -1) > (-1 if home is None else home)")),
+    **OF_17,
+)
+broken("6.24", "no local may be used", (LAST_17, LAST_17.replace("owners.get(v, home) != home", "v in owners")), file=RULES)
+READ_17 = '            read = [at(reads, w) or set() for role, w in operands if role == "n"]\n'
+USES_17 = '            return {w for role, w in operands if role == "v"}.union(*read)\n'
+broken("1.22", "what nodes read is no use", (USES_17, USES_17.replace(".union(*read)", "")), **OF_17)
+broken("1.22", "what a row names is no use", (USES_17, "            return set().union(*read)\n"), **OF_17)
+for kind in 33, 38, 45:
+    named = USES_17.replace('if role == "v"}', 'if role == "v" and line[0] != %d}' % kind)
+    broken("1.22", "what a %d names is no use" % kind, (USES_17, named), **OF_17)
+for kind, roles in sorted(ALL_ROLES.items()):
+    for at, role in enumerate(roles):
+        if role == "n" and kind >= 32 and kind not in (40, 41, 42):
+            left = READ_17.replace('role == "n"]', 'role == "n" and (line[0], w) != (%d, line[%d])]' % (kind, at + 1))
+            broken("1.22", "what %s of %d reads is no use" % (NAMES[at], kind), (READ_17, left), **OF_17)
+BELOW_17 = '            below = [at(found, w) or set() for role, w in zip(ROLES[kind], operands) if role == "n"]\n'
+broken("1.22", "what a node below reads is no use", (BELOW_17, "            below = []\n"), **OF_17)
+for at in range(3):
+    left = BELOW_17.replace('role == "n"]', 'role == "n" and (kind != 25 or w != operands[%d])]' % at)
+    broken("1.22", "what %s of 25 reads is no use" % NAMES[at], (BELOW_17, left), **OF_17)
+for kind in 19, 20, 21, 22, 23, 24, 26:
+    broken(
+        "1.22",
+        "what a node under %d reads is no use" % kind,
+        (BELOW_17, BELOW_17.replace('role == "n"]', 'role == "n" and kind != %d]' % kind)),
+        **OF_17,
+    )
+for at in range(2):
+    left = BELOW_17.replace('role == "n"]', 'role == "n" and (kind not in range(20, 25) or w != operands[%d])]' % at)
+    broken("1.22", "what %s of 20 to 24 reads is no use" % NAMES[at], (BELOW_17, left), **OF_17)
+OWN_17 = '            own = {w for role, w in zip(ROLES[kind], operands) if role == "v"}\n'
+broken("1.22", "27 reads no variable", (OWN_17, OWN_17.replace('role == "v"', 'role == "v" and kind == 16')), **OF_17)
+broken("1.22", "16 reads no variable", (OWN_17, OWN_17.replace('role == "v"', 'role == "v" and kind == 27')), **OF_17)
+UNDER_NONE = "            if sort(kind) == 1 and any(v in owners for v in reads[self.node(i)]):\n                return True\n"
+broken(
+    "1.22",
+    "a node that reads a local is refused",
     (
-        "    if refusal is None:\n        refusal = check_pair(c1, c2)\n    return refusal, lines\n",
-        "    if refusal is None or refusal[0] == 16:\n        refusal = check_pair(c1, c2) or refusal\n    return refusal, lines\n",
+        "            if sort(kind) != 2:\n                return False\n            if kind == 43:\n                home",
+        UNDER_NONE + "            if sort(kind) != 2:\n                return False\n            if kind == 43:\n                home",
     ),
     file=RULES,
+)
+FIRST_17 = "                found.setdefault(v, p)\n"
+broken("1.21", "a variable belongs to the last 43 that lists it", (FIRST_17, "                found[v] = p\n"), **OF_17)
+LISTED_17 = "            for v in range(a, min(a + b, len(self.declarations))):\n"
+broken("6.24", "a 43 has four locals at most", (LISTED_17, LISTED_17.replace("a + b", "a + min(b, 4)")), **OF_17)
+broken("6.24", "a 43 whose count is wrong has no locals", (LISTED_17, LISTED_17.replace("a + b", "a + (b if b <= 4 else 0)")), **OF_17)
+broken("6.24", "a seventeenth 43 has no locals", (LISTED_17, LISTED_17.replace("a + b", "a + (b if p < 16 else 0)")), **OF_17)
+RECEIVED = "            if line[0] == 45 and owners.get(line[3]) == line[1]:\n                return set(reads[line[2]])\n"
+broken("1.22", "the result may go to a local of the one called", (USES_17, RECEIVED + USES_17), **OF_17)
+ANEW_16 = "            if kind == 43:\n                iterators.clear()\n"
+broken("6.23", "16 does not begin anew at a 43", (ANEW_16, ""), file=RULES, refused={16, 17})
+broken(
+    "6.23",
+    "16 is not tested in procedures",
+    (IN_16, IN_16.replace("\n", " and not any(k == 43 for k, _, _, _ in self.lines[:i])\n")),
+    file=RULES,
     refused={16},
+)
+OPENS_11 = "            if kind in (38, 42):\n                if len(opened) >="
+CLEARED_11 = "            if kind == 43:\n                opened.clear()\n"
+broken("6.16", "11 begins anew at a 43", (OPENS_11, CLEARED_11 + OPENS_11), file=RULES, refused={11, 17})
+BEFORE_11 = "            before = len(opened) if kind == 43 else min(before, len(opened))\n"
+broken(
+    "6.16",
+    "11 counts the loops of one procedure",
+    ("        opened, broken = [], []\n", "        opened, broken, before = [], [], 0\n"),
+    (OPENS_11, BEFORE_11 + OPENS_11.replace("len(opened) >=", "len(opened) - before >=")),
+    file=RULES,
+    refused={11},
+)
+LOCALS_8 = '                if role == "l" and line[2] > 0 and w + line[2] > len(self.declarations):\n'
+broken("6.13", "locals may be anything", (LOCALS_8, "                if False:\n"), file=RULES, refused={8}, stops=True)
+broken("6.13", "only the parameter must be there", (LOCALS_8, LOCALS_8.replace("w + line[2]", "w + 1")), file=RULES, refused={8}, stops=True)
+broken(
+    "6.13",
+    "locals are counted modulo 2^32",
+    (LOCALS_8, LOCALS_8.replace("w + line[2]", "(w + line[2]) % 2**32")),
+    file=RULES,
+    refused={8},
+    stops=True,
+)
+broken("6.13", "the last variable may be no local", (LOCALS_8, LOCALS_8.replace("> len", ">= len")), file=RULES)
+broken(
+    "6.13",
+    "one local more than there are variables passes",
+    (LOCALS_8, LOCALS_8.replace("> len(self.declarations)", "> len(self.declarations) + 1")),
+    file=RULES,
+    refused={8},
+    stops=True,
+)
+broken(
+    "6.13",
+    "a 43 with no locals must name a variable",
+    (LOCALS_8, LOCALS_8.replace("line[2] > 0 and w + line[2]", "w + max(line[2], 1)")),
+    file=RULES,
+)
+broken("6.13", "a count above 4 is not tested", (LOCALS_8, LOCALS_8.replace("line[2] > 0", "5 > line[2] > 0")), file=RULES, refused={8}, stops=True)
+broken("6.13", "the number of a procedure must be a variable", (ROLES_8, ROLES_8.replace('role == "v"', 'role in "vp"')), file=RULES)
+broken("6.13", "the number of a procedure must be a node", (THERE, THERE.replace('role == "n"', 'role in "np"')), file=RULES)
+broken("6.13", "the count of locals must be a variable", (ROLES_8, ROLES_8.replace('role == "v"', 'role in "vk"')), file=RULES)
+LOCALS_9 = "            locals_ = range(line[1], line[1] + line[2]) if line[0] == 43 else ()\n"
+broken("6.14", "locals may have any type", (LOCALS_9, "            locals_ = ()\n"), file=RULES, refused={9}, stops=True)
+broken(
+    "6.14",
+    "only the parameter must be a uint",
+    (LOCALS_9, LOCALS_9.replace("line[1] + line[2])", "line[1] + min(line[2], 1))")),
+    file=RULES,
+    refused={9},
+    stops=True,
+)
+broken(
+    "6.14",
+    "the last local may have any type",
+    (LOCALS_9, LOCALS_9.replace("line[1] + line[2])", "line[1] + line[2] - 1)")),
+    file=RULES,
+    refused={9},
+    stops=True,
+)
+broken(
+    "6.14",
+    "the parameter may have any type",
+    (LOCALS_9, LOCALS_9.replace("range(line[1],", "range(line[1] + 1,")),
+    file=RULES,
+    refused={9},
+    stops=True,
+)
+broken("6.14", "a 43 with no locals must name a uint", (LOCALS_9, LOCALS_9.replace("line[1] + line[2])", "line[1] + max(line[2], 1))")), file=RULES)
+broken(
+    "6.14",
+    "a count above 4 has no types to test",
+    (LOCALS_9, LOCALS_9.replace("== 43", "== 43 and line[2] <= 4")),
+    file=RULES,
+    refused={9},
+    stops=True,
 )
 BELOW = "    if not c1 < c2:\n"
 broken("3.1", "c1 = c2 passes", (BELOW, "    if not c1 <= c2:\n"), file=RULES)
@@ -2409,8 +2952,9 @@ for test, what in [("== 13", "13"), ("not in (13, 14)", "the table's checks")] +
 REDUCE_13 = "    if refusal is None:\n        refusal = rules.check_pair(c1, c2)\n"
 lent("6.21", "the reduction takes any pair", (REDUCE_13, ""))
 lent("6.2", "13 of the reduction comes before the table's checks", (REDUCE_13, "    refusal = rules.check_pair(c1, c2) or refusal\n"))
-EARLY_13 = REDUCE_13.replace("refusal is None", "refusal is None or refusal[0] == 16").replace("c2)", "c2) or refusal")
-lent("6.2", "13 of the reduction comes before 16", (REDUCE_13, EARLY_13))
+for n in 16, 17:
+    early_13 = REDUCE_13.replace("refusal is None", "refusal is None or refusal[0] == %d" % n).replace("c2)", "c2) or refusal")
+    lent("6.2", "13 of the reduction comes before %d" % n, (REDUCE_13, early_13))
 REDUCE_CHECK = "def reduce_table(words, c1, c2, lent):\n    refusal = rules.check_table(words, False)\n"
 lent("6.21", "the reduction checks by the rules of reduced tables", (REDUCE_CHECK, REDUCE_CHECK.replace("False", "True")), stops=True)
 lent("6.21", "the reduction checks no table", (REDUCE_CHECK, REDUCE_CHECK.replace("rules.check_table(words, False)", "None")), stops=True)

@@ -3,12 +3,18 @@
 
 A case is little-endian words: the machine (0 plain, 1 reduced), c1, c2, how many cells are lent, how many words the table has, how many
 numbers the list has, how often the first run is done; the table (for the reduced machine the reduced one); the list; then the runs until
-the case ends, each a limit, a number of edits, and for each edit field (numbered as ROW to CELL below), slot, value. All cells are 7 at
+the case ends, each a limit, a number of edits, and for each edit field (numbered as ROW to STACK below), slot, value. All cells are 7 at
 first. The first run is fresh. A later one continues with the record of the last run that was not refused, the cells as they are, and the
 choices not yet used. Its edits change that record, or the cells, before it runs; a refused run leaves the record as it was before them.
 
+The callers stand in a stack of 241 words, field STACK: 30 words for each of eight, the one in main first, with its row, how many loops are
+open, four locals, and the rows, starts and ends of eight loops. How many callers there are, the last word, is the field DEPTH.
+
 A line has the end or the refusal, and check numbers: h = 0, then h * 31 + word modulo 2^32 for each word of the cells, and for each word
-of the record's parts in use (record_check).
+of the record's parts in use (record_check). These are, in order: the row; how many loops are open, and of each, outermost first, row, start
+and end; of each variable its number, and of a pointer the number of its array after it; how many arrays there are, and of each its first
+cell, length and 1 if it is reduced, else 0; how many callers there are, and of each, the one in main first, its row, the numbers of its
+locals, how many loops are open, and of each of these row, start and end.
 
 The lines come from the interpreter below, which is written from the rules (docs/RULES.md). It takes tables that pass: the number and line
 of a refused table are given with the case. The examples of section 8 of the rules are held to what it says of them.
@@ -23,14 +29,15 @@ PLAIN, REDUCED = 0, 1
 CELLS = {PLAIN: 4096, REDUCED: 4128}
 BOOL, UINT, POINTER = 1, 2, 3
 SUM, DIFFERENCE, NO_ARRAY, PAST, COUNTER = range(1, 6)  # the reasons of a failure
-ROW, OPEN, LOOP_ROW, START, END, NUMBER, BASE, COUNT, FIRST, LENGTH, SHAPE, CELL = range(12)
+ROW, OPEN, LOOP_ROW, START, END, NUMBER, BASE, COUNT, FIRST, LENGTH, SHAPE, CELL, DEPTH, STACK = range(14)
+MOST_CALLERS = 8
 
 
 # Tables
 
 
 class Table:
-    """Lines by sort; the end row of each loop row."""
+    """Lines by sort; the end row of each loop row; the rows 43, and where main or a procedure ends, at the next 43 or the row count."""
 
     def __init__(self, lines):
         self.lines = lines
@@ -44,6 +51,20 @@ class Table:
                 opened.append(r)
             elif line[0] == 39 and opened:
                 self.ends[opened.pop()] = r
+        self.procedures = [r for r, line in enumerate(self.rows) if line[0] == 43]
+        self.stops = {*self.procedures, len(self.rows)}
+
+    def home(self, row):
+        """The procedure that a row belongs to, that of the last 43 above it; None for main."""
+        above = [p for p, r in enumerate(self.procedures) if r < row]
+        return above[-1] if above else None
+
+    def locals_of(self, home):
+        """The variables that are a procedure's locals; main has none."""
+        if home is None:
+            return []
+        _, first, count, _ = self.rows[self.procedures[home]]
+        return list(range(first, first + count))
 
     def marked(self, v, sort):
         return self.declarations[v][:2] == (sort, 1)
@@ -82,13 +103,14 @@ def failed(reason):
 
 
 class State:
-    """Row, open loops [row, start, end], variables (a pointer is a base, 0 for none, and a place), arrays (first, length, reduced)."""
+    """Row, open loops (row, start, end), variables (a pointer is a base, 0 for none, and a place), arrays (first, length, reduced), and
+    callers (row, numbers of the locals, open loops), the one in main first."""
 
-    def __init__(self, row, loops, variables, arrays):
-        self.row, self.loops, self.variables, self.arrays = row, loops, variables, arrays
+    def __init__(self, row, loops, variables, arrays, callers):
+        self.row, self.loops, self.variables, self.arrays, self.callers = row, loops, variables, arrays, callers
 
     def copy(self):
-        return State(self.row, [list(x) for x in self.loops], list(self.variables), list(self.arrays))
+        return State(self.row, list(self.loops), list(self.variables), list(self.arrays), list(self.callers))
 
 
 class Machine:
@@ -107,7 +129,7 @@ class Machine:
         for v, _ in enumerate(variables):
             if self.holds_classes and self.table.marked(v, UINT):
                 variables[v] = class_of(0, self.pair)
-        return State(0, [], variables, [])
+        return State(0, [], variables, [], [])
 
     def choice(self, true, wanted=None):
         """The next choice, in the class of the true number unless any number will do; the writer writes the true number."""
@@ -209,13 +231,43 @@ class Machine:
         state.variables[iterator] = class_of(start, self.pair) if kind == 42 and self.holds_classes else start
         if start > end:
             return False
-        state.loops.append([row, start, end])
+        state.loops.append((row, start, end))
         state.row = row + 1
         return True
 
+    def call(self, state, at, procedure, v):
+        """The call of row at: the caller is put aside, with its locals and its open loops, and the procedure starts with fresh ones."""
+        if len(state.callers) == MOST_CALLERS:
+            raise Ended("deep")
+        at_work = self.table.locals_of(self.table.home(at))
+        held = [state.variables[x] for x in at_work]
+        state.callers.append((at, held, state.loops))
+        for x in at_work:
+            state.variables[x] = 0
+        state.loops = []
+        first, *others = self.table.locals_of(procedure)
+        state.variables[first] = v
+        for x in others:
+            state.variables[x] = 0
+        state.row = self.table.procedures[procedure] + 1
+
+    def give_back(self, state, at, v):
+        """The return of a number from row at: the last caller's locals and open loops come back, then the variable of its 45 gets the number."""
+        for x in self.table.locals_of(self.table.home(at)):
+            state.variables[x] = 0
+        row, held, loops = state.callers.pop()
+        for x, number in zip(self.table.locals_of(self.table.home(row)), held):
+            state.variables[x] = number
+        state.loops = list(loops)
+        state.variables[self.table.rows[row][3]] = v
+        state.row = row + 1
+
     def step(self, state):
-        """Changes the state and the cells by one row, or raises the end that it comes to."""
+        """Changes the state and the cells by one row, or raises the end that it comes to. The end of a procedure returns 0."""
         at = state.row
+        if at in self.table.stops:
+            self.give_back(state, at, 0)
+            return
         kind, a, b, c = self.table.rows[at]
         state.row = at + 1
         if kind == 33:
@@ -237,15 +289,23 @@ class Machine:
             if start == BIG:
                 raise failed(COUNTER)
             self.enter(state, row, start + 1, end)
+        elif kind == 44:
+            self.give_back(state, at, self.value(state, a))
+        elif kind == 45:
+            self.call(state, at, a, self.value(state, b))
+
+    def writes(self, row):
+        """Whether a row can change the cells."""
+        return row not in self.table.stops and self.table.rows[row][0] in (34, 37, 40, 41)
 
     def run(self, state, limit):
         """The end, the steps and the last state. A step that ends the run leaves state and cells as they were."""
         steps = 0
-        while state.row < len(self.table.rows):
+        while state.callers or state.row not in self.table.stops:
             if steps == limit:
                 return "steps", steps, state
             used, following = self.used, state.copy()
-            cells = list(self.cells) if self.table.rows[state.row][0] in (34, 37, 40, 41) else None
+            cells = list(self.cells) if self.writes(state.row) else None
             try:
                 self.step(following)
             except Ended as e:
@@ -267,7 +327,7 @@ class Machine:
 
 def columns(table, state):
     """The record by field, each a list by slot; a slot that is not in use has no value."""
-    width = {LOOP_ROW: 8, START: 8, END: 8, NUMBER: 32, BASE: 32, FIRST: 16, LENGTH: 16, SHAPE: 16}
+    width = {LOOP_ROW: 8, START: 8, END: 8, NUMBER: 32, BASE: 32, FIRST: 16, LENGTH: 16, SHAPE: 16, STACK: 240}
     record = {field: [None] * n for field, n in width.items()}
     record[ROW], record[OPEN], record[COUNT] = [state.row], [len(state.loops)], [len(state.arrays)]
     for i, parts in enumerate(state.loops):
@@ -276,7 +336,51 @@ def columns(table, state):
         record[BASE][i], record[NUMBER][i] = v if isinstance(v, tuple) else (None, int(v))
     for i, (first, length, reduced) in enumerate(state.arrays):
         record[FIRST][i], record[LENGTH][i], record[SHAPE][i] = first, length, int(reduced)
+    record[DEPTH] = [len(state.callers)]
+    for d, (row, held, loops) in enumerate(state.callers):
+        for slot, v in caller_words(row, held, loops).items():
+            record[STACK][30 * d + slot] = v
     return record
+
+
+def caller_words(row, held, loops):
+    """The words of a caller that are in use, by their slots among its 30."""
+    words = {0: row, 1: len(loops)}
+    words.update((2 + i, v) for i, v in enumerate(held))
+    for i, parts in enumerate(loops):
+        words.update(zip((6 + i, 14 + i, 22 + i), parts))
+    return words
+
+
+def open_loops(table, row, open_, rows, starts, ends):
+    """The open loops at a row, or None where they are not those around it or one has a start above its end."""
+    around = [r for r in sorted(table.ends) if r < row <= table.ends[r]]
+    if open_ != len(around) or rows[:open_] != around:
+        return None
+    loops = list(zip(around, starts, ends))
+    if any(start > end for _, start, end in loops):
+        return None
+    return loops
+
+
+def callers_of(table, record):
+    """The callers of a record and the procedure that the last one calls, None with no callers; or None where 15 refuses them."""
+    callers, called = [], None
+    if record[DEPTH][0] > MOST_CALLERS:
+        return None
+    for d in range(record[DEPTH][0]):
+        words = record[STACK][30 * d : 30 * d + 30]
+        row, open_, held = words[0], words[1], words[2 : 2 + len(table.locals_of(called))]
+        if row >= len(table.rows) or table.rows[row][0] != 45:
+            return None
+        if table.home(row) != called:
+            return None
+        loops = open_loops(table, row, open_, words[6:14], words[14:22], words[22:])
+        if loops is None:
+            return None
+        callers.append((row, held, loops))
+        called = table.rows[row][1]
+    return callers, called
 
 
 def state_of(table, record, pair, cells):
@@ -284,11 +388,17 @@ def state_of(table, record, pair, cells):
     row, open_, count = record[ROW][0], record[OPEN][0], record[COUNT][0]
     if row > len(table.rows):
         return None
-    around = [r for r in sorted(table.ends) if r < row <= table.ends[r]]
-    if open_ != len(around) or record[LOOP_ROW][:open_] != around:
+    loops = open_loops(table, row, open_, record[LOOP_ROW], record[START], record[END])
+    if loops is None or count > 16:
         return None
-    loops = [list(parts) for parts in zip(around, record[START], record[END])]
-    if any(start > end for _, start, end in loops) or count > 16:
+    found = callers_of(table, record)
+    if found is None:
+        return None
+    callers, called = found
+    if table.home(row) != called:
+        return None
+    idle = [v for p in range(len(table.procedures)) if p != called for v in table.locals_of(p)]
+    if any(record[NUMBER][v] != 0 for v in idle):
         return None
     arrays, following = [], 0
     for i in range(count):
@@ -308,7 +418,7 @@ def state_of(table, record, pair, cells):
             if number > 4 or number in empty_classes(pair):
                 return None
         variables.append((base, number) if kind == POINTER else number == 1 if kind == BOOL else number)
-    return State(row, loops, variables, arrays)
+    return State(row, loops, variables, arrays, callers)
 
 
 def check_number(words):
@@ -325,6 +435,9 @@ def record_check(table, state):
         words += [v[1], v[0]] if isinstance(v, tuple) else [int(v)]
     words.append(len(state.arrays))
     words += [int(w) for array in state.arrays for w in array]
+    words.append(len(state.callers))
+    for row, held, loops in state.callers:
+        words += [row, *held, len(loops)] + [w for parts in loops for w in parts]
     return check_number(words)
 
 
@@ -382,10 +495,40 @@ def shares(table):
     return any(table.rows[o][1] == table.rows[r][1] and o < r < end for o, end in table.ends.items() for r in table.ends)
 
 
-def case(machine, lines, runs, pair=(1, 3), choices=(), lent=None, refusal=None, words=None, expect=None):
-    """Adds a case: lines of the machine's own table. A run is a limit, or a limit and edits. What the rules say of it may be given."""
+# Which operand of a line names a variable, and which name nodes
+NAMES_VARIABLE = {16: 0, 27: 0, 33: 0, 37: 0, 38: 0, 41: 0, 42: 0, 45: 2}
+NAMES_NODES = {19: (0,), 25: (0, 1, 2), 26: (0,), 28: (0,), 29: (0,), 33: (1,), 34: (0, 1), 35: (0,), 36: (0,), 37: (1,), 38: (1, 2)}
+NAMES_NODES.update({40: (0, 1), 41: (1,), 42: (1, 2), 44: (0,), 45: (1,), **{kind: (0, 1) for kind in range(20, 25)}})
+
+
+def used(table, kind, *operands):
+    """The variables that a line names, and those that the nodes under it read."""
+    found = {operands[NAMES_VARIABLE[kind]]} if kind in NAMES_VARIABLE else set()
+    return found.union(*(used(table, *table.nodes[operands[i]]) for i in NAMES_NODES.get(kind, ())))
+
+
+def strays(table):
+    """Whether a table has procedures that 17 refuses."""
+    listed = [(v, p) for p in range(len(table.procedures)) for v in table.locals_of(p)]
+    owners, counts = dict(listed), [len(table.locals_of(p)) for p in range(len(table.procedures))]
+    if len(counts) > 16 or len(owners) < len(listed) or not all(1 <= n <= 4 for n in counts) or any(table.declarations[v][1] for v in owners):
+        return True
+    if any(o < r < end for o, end in table.ends.items() for r in table.procedures):
+        return True
+    for r, (kind, a, b, c) in enumerate(table.rows):
+        home = table.home(r)
+        if any(owners.get(v, home) != home for v in used(table, kind, a, b, c)) or kind == 44 and home is None:
+            return True
+        if kind == 45 and (a >= len(counts) or table.declarations[c][1]):
+            return True
+    return False
+
+
+def case(machine, lines, runs, pair=(1, 3), choices=(), lent=None, refusal=None, words=None, expect=None, holds=None):
+    """Adds a case: lines of the machine's own table. A run is a limit, or a limit and edits. What the rules say of the last one may be
+    given: how its line begins, and the numbers that variables hold then."""
     table = Table(lines)
-    assert refusal is not None or not shares(table), lines
+    assert not (shares(table) or strays(table)) if refusal is None else refusal[0] != 17 or strays(table), lines
     runs = [run if isinstance(run, tuple) else (run, []) for run in runs]
     lent = CELLS[machine] if lent is None else lent
     words = [w for line in lines for w in line] if words is None else words
@@ -397,6 +540,9 @@ def case(machine, lines, runs, pair=(1, 3), choices=(), lent=None, refusal=None,
     assert not any(holds_empty(run, state) for run, state in reached)
     if expect is not None:
         assert out[-1].startswith(expect + " "), (out, expect)
+    if holds is not None:
+        held = reached[-1][1].variables
+        assert all(held[v] == n for v, n in holds.items()), (held, holds)
     CASES.append((struct.pack("<%dI" % len(data), *data), out))
     return out
 
@@ -410,10 +556,10 @@ def reduced(lines, *runs, **more):
     return case(REDUCED, Table(lines).reduced().lines, runs, **more)
 
 
-def both(lines, *runs):
+def both(lines, *runs, **more):
     """Both machines, the reduced one under the true choices."""
-    plain(lines, *runs)
-    reduced(lines, *runs, choices=written(lines, (1, 3), 10000))
+    plain(lines, *runs, **more)
+    reduced(lines, *runs, choices=written(lines, (1, 3), 10000), **more)
 
 
 def write_choices(lines, pair, limit, room=None):
@@ -850,6 +996,405 @@ def orders():
             reduced([MU, MP, U, B, *nodes, *more, *made, *rows], 3, 100, pair=(5, 9), choices=choices)
 
 
+# Procedures
+
+
+def procedure(first, count, *rows):
+    return [(43, first, count, 0), *rows]
+
+
+def calls(p, node, v):
+    return (45, p, node, v)
+
+
+def returns(node):
+    return (44, node, 0, 0)
+
+
+def in_parts(lines, expect=None, holds=None, pair=(1, 3)):
+    """Both machines, the reduced one under the true choices: the whole run; stopped after each number of steps and continued; step by step."""
+    choices = written(lines, pair, 1000)
+    for machine, own in (PLAIN, lines), (REDUCED, Table(lines).reduced().lines):
+        more = {"pair": pair, "choices": choices if machine == REDUCED else []}
+        whole = case(machine, own, [1000], expect=expect, holds=holds, **more)[0]
+        steps, done = count(whole, "steps"), whole.startswith("done")
+        assert steps < 1000 and count(whole, "choices") == len(more["choices"])
+        for limits in [(k, 1000) for k in range(steps + done)] + [(1,) * (steps or 1)]:
+            out = case(machine, own, limits, **more)
+            assert fields(out[-1]) == fields(whole)
+            for name in ("steps", "choices"):
+                assert sum(count(line, name) for line in out) == count(whole, name)
+
+
+def each(lines, *runs, **more):
+    """Both machines, the reduced one with no choices."""
+    plain(lines, *runs, **more)
+    reduced(lines, *runs, **more)
+
+
+# Variable 0 takes results, variable 1 is the local of procedure 0; nodes 0 to 2 are 5, the local, twice the local
+DOUBLES = [U, U, constant(5), variable(1), (20, 1, 1, 0)]
+
+
+def examples_of_calls():
+    """The examples of rule 8.22."""
+    lines = DOUBLES + [calls(0, 0, 0), *procedure(1, 1, returns(2))]
+    each(lines, 100, expect="done row 1 steps 2 choices 0", holds={0: 10, 1: 0})
+    each(lines, 1, expect="steps row 2 steps 1 choices 0", holds={0: 0, 1: 5})
+    each(lines[:-1], 100, expect="done row 1 steps 2 choices 0", holds={0: 0, 1: 0})
+    each(DOUBLES + [calls(0, 0, 0), *procedure(1, 1, calls(0, 1, 0))], 100, expect="deep row 2 steps 9 choices 0", holds={0: 0, 1: 5})
+
+
+def where_main_ends():
+    """Main is done at the first 43, whatever the limit, and no row after it is carried out but by a call."""
+    nodes = [constant(0), constant(1), (18, 0, 0, 0)]
+    for head in [], [SKIP], [SKIP] * 3, loop(0, 0, 0), loop(0, 1, 0, SKIP):
+        for body in [], [SKIP], [(35, 2, 0, 0)], [returns(0)], [calls(0, 0, 0)], procedure(2, 1, SKIP), loop(1, 0, 1):
+            lines = [U, U, U, *nodes, *head, *procedure(1, 1, *body)]
+            each(lines, 100, 0, 5, expect="done row %d steps 0" % len(head))
+            each(lines, 0, expect="%s row 0 steps 0" % ("steps" if head else "done"))
+    each([U, *procedure(0, 1)], 0, 7, expect="done row 0 steps 0")
+
+
+def falling_off():
+    """The end of a procedure, at the next 43 or the row count, returns 0 in a step of its own."""
+    nodes = [constant(5), constant(9), constant(0), variable(3)]
+    # rows 0 to 3 are main's, 4 and 5 those of procedure 0, 6 and 7 those of procedure 1
+    lines = [U, U, U, U, *nodes, (33, 0, 1, 0), calls(0, 0, 0), (33, 0, 1, 0), calls(1, 0, 0)]
+    lines += procedure(1, 1, (33, 1, 1, 0)) + procedure(2, 1, (33, 2, 1, 0))
+    in_parts(lines, "done row 4 steps 8", {0: 0, 1: 0, 2: 0})
+    each(lines, 3, expect="steps row 6 steps 3", holds={0: 9, 1: 9})
+    each(lines, 4, expect="steps row 2 steps 4", holds={0: 0, 1: 0})
+    each(lines, 7, expect="steps row 8 steps 7", holds={0: 9, 2: 9})
+    # no rows: the call, and this
+    lines = [U, U, U, U, *nodes, (33, 0, 1, 0), calls(0, 0, 0), (33, 0, 1, 0), calls(1, 0, 0), *procedure(1, 1), *procedure(2, 1)]
+    in_parts(lines, "done row 4 steps 6", {0: 0, 1: 0, 2: 0})
+    each(lines, 2, expect="steps row 5 steps 2", holds={0: 9, 1: 5})
+    each(lines, 5, expect="steps row 6 steps 5", holds={0: 9, 2: 5})
+    # after a loop, after one that is not entered, after a call; the last row of main, and a result for another variable
+    head = [U, U, U, U, *nodes]
+    for body in loop(2, 0, 0, SKIP), loop(2, 0, 2, SKIP), [calls(1, 1, 2)], loop(2, 2, 2, calls(1, 1, 2)), [calls(1, 1, 1), SKIP]:
+        in_parts(head + [(33, 0, 1, 0), calls(0, 0, 0), *procedure(1, 2, *body), *procedure(3, 1, returns(3))], "done row 2", {0: 0})
+    in_parts(head + [SKIP, calls(0, 1, 3), SKIP, *procedure(1, 2)], "done row 3 steps 4", {0: 0, 3: 0})
+
+
+def chain_of(n):
+    """Procedures that call the next and return what it returns; the last returns its parameter, which is 5."""
+    rows = [calls(0, 0, 0)]
+    for k in range(n):
+        rows += procedure(1 + k, 1, *([calls(1 + k, 1 + k, 1 + k)] if k < n - 1 else []), returns(1 + k))
+    return [U] * (n + 1) + [constant(5)] + [variable(1 + k) for k in range(n)] + rows
+
+
+def too_deep():
+    """A ninth call, its node worked out, ends the run: the step counts, and nothing changes. A node that fails comes before it."""
+    for n in 1, 7, 8:
+        each(chain_of(n), 100, expect="done row 1 steps %d" % (2 * n), holds={0: 5})
+    for n in 9, 10, 16:
+        each(chain_of(n), 100, 0, expect="steps row 23 steps 0", holds={0: 0, 8: 5, 9: 0})
+        each(chain_of(n), 100, 5, expect="deep row 23 steps 1", holds={0: 0, 8: 5, 9: 0})
+    in_parts(chain_of(8), "done row 1 steps 16", {0: 5})
+    in_parts(chain_of(9), "deep row 23 steps 9", {8: 5})
+    # one that calls itself with one less, or one more
+    for kind, first, expect, held in (
+        (21, 6, "fail reason 2 row 2 steps 8", 0),
+        (21, 7, "fail reason 2 row 2 steps 9", 0),
+        (21, 8, "deep row 2 steps 9", 1),
+        (20, BIG - 6, "fail reason 1 row 2 steps 8", BIG),
+        (20, BIG - 7, "fail reason 1 row 2 steps 9", BIG),
+        (20, BIG - 8, "deep row 2 steps 9", BIG - 1),
+    ):
+        lines = [U, U, constant(first), constant(1), variable(1), (kind, 2, 1, 0), calls(0, 0, 0), *procedure(1, 1, calls(0, 3, 0))]
+        each(lines, 100, expect=expect, holds={0: 0, 1: held})
+        each(lines, 100, 1, expect=expect[:-1] + "1", holds={0: 0, 1: held})
+    # the ninth call, the tenth step, reads place 7 of an array
+    for declaration in P, MP:
+        nodes = [constant(0), constant(1), variable(1), variable(2), (20, 3, 2, 0), (19, 4, 0, 0), (20, 2, 1, 0), (20, 6, 5, 0)]
+        rows = [calls(0, 0, 0), *procedure(1, 1, calls(0, 7, 0))]
+        for length, expect in (7, "fail reason 4 row 3 steps"), (8, "deep row 3 steps"):
+            lines = [U, U, declaration, *nodes, constant(length), (37, 2, 8, 0), *rows]
+            both(lines, 100, expect=expect + " 10", holds={1: 7})
+            both(lines, 9, 100, expect=expect + " 1", holds={1: 7})
+        both([U, U, declaration, *nodes, *rows], 100, expect="fail reason 3 row 2 steps 2")
+    # the caller's loops and those of the call stay
+    for declaration in U, MU:
+        nodes = [constant(1), constant(5), constant(2)]
+        body = loop(2, 0, 1, *loop(3, 2, 2, calls(0, 1, 0)))
+        in_parts([U, U, declaration, U, *nodes, *loop(3, 0, 0, calls(0, 1, 0)), *procedure(1, 1, *body)], "deep row 6 steps 26")
+
+
+def choices_of_calls():
+    """A call takes the choices of its node, too deep or not; a return those of its own; falling off takes none."""
+    more = {"pair": (5, 9)}
+    # a call takes one choice, or two
+    for node, taken in (0, 1), (1, 2):
+        lines = [U, U, MU, variable(2), (20, 0, 0, 0), calls(0, node, 0), *procedure(1, 1, calls(0, node, 0))]
+        short = "row 2 steps 8 choices %d" % (8 * taken)
+        reduced(lines, 100, choices=[4] * 9 * taken, expect="deep row 2 steps 9 choices %d" % (9 * taken), holds={1: 4 * taken}, **more)
+        for choices, end in ([4] * (9 * taken - 1), "nochoice"), ([4] * 8 * taken, "nochoice"), ([4] * (9 * taken - 1) + [7, 7], "badchoice"):
+            reduced(lines, 100, choices=choices, expect="%s %s" % (end, short), **more)
+        reduced(lines, 100, 1, choices=[4] * 9 * taken + [1, 2, 3], expect="deep row 2 steps 1 choices %d" % taken, **more)
+        reduced(lines, 100, 0, 1, 1, 1, 1, choices=[4] * 9 * taken + [1, 2, 3], **more)
+        for k in range(8 * taken):
+            reduced(lines, 100, 100, choices=[3] * k, expect="nochoice row %d steps 0 choices 0" % (2 if k >= taken else 0), **more)
+            reduced(lines, 100, 100, choices=[3] * k + [5] + [3] * 9, **more)
+    # the call gives the choice; the return gives the sum of two; falling off gives 0 and leaves the list
+    head = [U, U, MU, U, variable(2), variable(1), (20, 1, 0, 0)]
+    for body, choices, expect, held in (
+        ([returns(2)], [3, 4, 2], "done row 1 steps 2 choices 2", 7),
+        ([returns(2)], [3], "nochoice row 2 steps 1 choices 1", 0),
+        ([returns(2)], [3, 9], "badchoice row 2 steps 1 choices 1", 0),
+        ([], [3, 4, 2], "done row 1 steps 2 choices 1", 0),
+        ([], [3], "done row 1 steps 2 choices 1", 0),
+        ([], [], "nochoice row 0 steps 0 choices 0", 0),
+    ):
+        reduced(head + [calls(0, 0, 0), *procedure(1, 1, *body)], 100, choices=choices, expect=expect, holds={0: held}, **more)
+        reduced(head + [calls(0, 0, 0), *procedure(1, 1, *body)], 1, 0, 100, choices=choices, holds={0: held}, **more)
+
+
+def returns_in_loops():
+    """A return drops the procedure's loops, wherever it stands in them; a global iterator keeps its number, a local one is 0."""
+    nodes = [constant(0), constant(1), constant(3), constant(5), variable(3), variable(1), variable(2)]
+    zero, one, three, five, local, first, second = range(7)
+    nodes += [(24, first, three, 0), (25, 7, one, zero), (24, second, three, 0), (25, 9, one, zero)]
+    for declaration in U, MU:
+        # variables: a result, two iterators, the two locals of procedure 0
+        head = [U, declaration, U, U, U, *nodes]
+        for body, held in (
+            (loop(2, one, five, returns(local)), {0: 5, 2: 1}),
+            (loop(2, three, five, *loop(4, one, three, returns(local))), {0: 5, 2: 3}),
+            (loop(1, one, five, *loop(2, three, three, *loop(4, one, one, SKIP, returns(second)))), {0: 3, 2: 3}),
+            (loop(4, one, three) + loop(2, one, one) + [returns(local)], {0: 5, 2: 2}),
+            # where the iterator is 3
+            (loop(1, zero, five, *loop(4, one, 8, returns(first))), {0: 3}),
+            (loop(2, zero, five, *loop(4, one, 10, returns(second))), {0: 3, 2: 3}),
+        ):
+            lines = head + [calls(0, five, 0), *procedure(3, 2, *body)]
+            in_parts(lines, "done row 1", {3: 0, 4: 0, **held})
+            # the caller is in a loop, which may have an iterator of the procedure's, and opens another after the call
+            around = loop(1, zero, one, calls(0, five, 0), *loop(2, zero, zero))
+            both(head + around + procedure(3, 2, *body), 1000, expect="done row 5", holds={0: held[0], 2: 1, 3: 0, 4: 0})
+            for stopped in 5, 9, 14, 20:
+                both(head + around + procedure(3, 2, *body), stopped, 3, 1000)
+
+
+def eight_loops(n):
+    """Main and n procedures, each of which calls the next in eight loops, all with the same iterators, and returns in them."""
+
+    def looped(*rows):
+        for v in reversed(range(8)):
+            rows = loop(v, 0, 0, *rows)
+        return rows
+
+    rows = [*looped(calls(0, 1, 8))]
+    for k in range(n):
+        rows += procedure(9 + k, 1, *looped(calls(k + 1, 1, 9 + k) if k < n - 1 else SKIP, returns(1)))
+    return [U] * (9 + n) + [constant(0), constant(7)] + rows
+
+
+def calls_in_loops():
+    """The caller's loops keep start and end, whatever the procedure does to their iterators, which have its numbers till then."""
+    nodes = [constant(0), constant(2), constant(5), variable(2), constant(1), (20, 3, 4, 0)]
+    zero, two, five, counter, one, counted = range(6)
+    for declaration in U, MU:
+        bodies = [[], loop(1, five, five), loop(1, two, zero, SKIP), loop(1, one, five, returns(two))]
+        bodies += [loop(1, zero, five, *loop(4, two, two, returns(two)))]
+        bodies += [[(33, 1, five, 0)], [(33, 1, zero, 0), returns(one)]] if declaration == U else []
+        for body in bodies:
+            # three rounds, which variable 2 counts
+            lines = [U, declaration, U, U, U, *nodes, *loop(1, zero, two, calls(0, five, 0), (33, 2, counted, 0)), *procedure(3, 2, *body)]
+            in_parts(lines, "done row 4", {2: 3, **({1: 3} if declaration == U else {})})
+            # two loops around, the inner one's iterator used; and the result in the iterator of the outer
+            around = loop(0, zero, one, *loop(1, one, two, calls(0, five, 0), (33, 2, counted, 0)))
+            both([U, declaration, U, U, U, *nodes, *around, *procedure(3, 2, *body)], 1000, expect="done row 6", holds={0: 2, 2: 4})
+    # after a call the iterator has what the procedure left in it
+    lines = [U, U, U, U, U, *nodes, *loop(1, zero, zero, calls(0, five, 0)), *procedure(3, 2, *loop(1, two, five, returns(one)))]
+    each(lines, 4, expect="steps row 2 steps 4", holds={0: 1, 1: 2})
+    # eight loops open in main and in each of eight calls
+    for n in 8, 9:
+        each(eight_loops(n), 1000, expect="done row 17 steps 97" if n == 8 else "deep row 159 steps 81", holds={8: 7 if n == 8 else 0})
+        each(eight_loops(n), 80, 1, 3, 8, 1000)
+
+
+def of_itself(n, c):
+    """A table whose procedure 0 has n locals and calls itself with one less until it has 0, the result to variable c: 0 is global, 1 on are
+    its locals. It returns the sum of these, each but the first set to 10, 20 or 30 more than the first before the call."""
+    nodes = [constant(0), constant(1), constant(3), *(variable(v) for v in range(n + 1))]
+    own = 4  # the node of the first local
+    for k in range(1, n):
+        nodes += [constant(10 * k), (20, own, len(nodes), 0), (24, own + k, 0, 0), (24, own + k, len(nodes) + 1, 0)]
+    sets = 4 + n  # four nodes for each local but the first
+    nodes += [(21, own, 1, 0), (22, 0, own, 0), (25, len(nodes) + 1, 1, 0)]
+    less, once = len(nodes) - 3, len(nodes) - 1
+    total = own - 1 if c == 0 else 0
+    for k in range(n):
+        nodes.append((20, total, own + k, 0))
+        total = len(nodes) - 1
+    body = [(35, sets + 4 * k + 2, 0, 0) for k in range(n - 1)] + [(33, 2 + k, sets + 4 * k + 1, 0) for k in range(n - 1)]
+    kept = [(35, sets + 4 * k + 3, 0, 0) for k in range(n - 1) if c not in (1, 2 + k)]
+    body += loop(n + 1, 1, once, calls(0, less, c), *kept) + [returns(total)]
+    return [U] * (n + 2) + nodes + [calls(0, 2, 0), *procedure(1, n, *body)]
+
+
+def sum_of_itself(n, c, first):
+    """What the procedure of of_itself returns."""
+    held = [0, first] + [first + 10 * k for k in range(1, n)]
+    if first > 0:
+        held[c] = sum_of_itself(n, c, first - 1)
+    return sum(held)
+
+
+def fresh_locals():
+    """A procedure that calls itself gets a fresh set of locals, and its own come back before the result is set; so do those of two that
+    call each other."""
+    for n in range(1, 5):
+        for c in range(n + 1):
+            lines = of_itself(n, c)
+            each(lines, 1000, expect="done row 1", holds={0: sum_of_itself(n, c, 3), **{1 + k: 0 for k in range(n)}})
+            each(lines, 7, 6, 9, 4, 1000, expect="done row 1", holds={0: sum_of_itself(n, c, 3)})
+    for n, c in (1, 0), (1, 1), (2, 2), (4, 3):
+        in_parts(of_itself(n, c), "done row 1", {0: sum_of_itself(n, c, 3)})
+    # f(x) is x + g(x - 1), or 0 with x = 0, g(x) is 2 x + f(x); f(3) = 3 + 4 + 2 + 2 + 1 + 0 + 0
+    nodes = [constant(0), constant(1), constant(3), variable(1), variable(2), variable(3), variable(4), (21, 3, 1, 0), (22, 0, 3, 0)]
+    nodes += [(25, 8, 1, 0), (20, 3, 4, 0), (20, 5, 5, 0), (20, 11, 6, 0)]
+    f = procedure(1, 2, *loop(5, 1, 9, calls(1, 7, 2)), returns(10))
+    g = procedure(3, 2, calls(0, 5, 4), returns(12))
+    in_parts([U] * 6 + nodes + [calls(0, 2, 0)] + f + g, "done row 1", {0: 12, 1: 0, 2: 0, 3: 0, 4: 0})
+
+
+def results():
+    """Where a result goes: to a global, to a local of the caller over what came back, to the parameter, to the iterator of an open loop."""
+    nodes = [constant(5), constant(7), variable(1), variable(2), variable(3), (20, 2, 3, 0), (20, 5, 4, 0), variable(5), (20, 7, 0, 0)]
+    for c, total in (0, 19), (1, 26), (2, 24), (3, 24):
+        # locals 5, 7 and 7, of which c becomes 12; variable 5 is the other procedure's, which returns 5 more
+        body = [(33, 2, 1, 0), (33, 3, 1, 0), calls(1, 1, c), returns(6)]
+        lines = [U] * 6 + nodes + [calls(0, 0, 4), *procedure(1, 3, *body), *procedure(5, 1, returns(8))]
+        in_parts(lines, "done row 1", {0: 12 if c == 0 else 0, 1: 0, 2: 0, 3: 0, 4: total, 5: 0})
+    # the iterator of a loop of the caller, which goes on by the start that it keeps
+    for p in procedure(1, 1, returns(2)), procedure(1, 1):
+        in_parts([U, U, U, U, constant(0), constant(2), variable(1), *loop(0, 0, 1, calls(0, 1, 0)), *p], "done row 3", {0: 3})
+    # f(x) calls f(2 x) for each number from 2 x to 4 and returns 2 x and its other locals, of which the second is x: f(1) = 3, f(2) = 6
+    nodes = [constant(4), *(variable(v) for v in range(1, 5)), (20, 1, 1, 0), (20, 2, 3, 0), (20, 6, 4, 0), (20, 5, 7, 0), constant(1)]
+    body = [(33, 2, 1, 0), *loop(6, 0, 0, *loop(7, 5, 0, calls(0, 5, 0))), returns(8)]
+    in_parts([U] * 8 + nodes + [calls(0, 9, 5), *procedure(1, 4, *body)], "done row 1", {0: 6, 1: 0, 2: 0, 5: 3})
+
+
+def globals_in_procedures():
+    """Bools, pointers, arrays, and uints that no 43 lists are not put aside."""
+    for declaration in P, MP:
+        # variables: bool, pointer, pointer, a uint, a result, a local
+        nodes = [constant(1), constant(6), (18, 1, 0, 0), variable(0), variable(1), variable(2), variable(3), variable(5), (20, 4, 7, 0)]
+        nodes += [(19, 8, 0, 0), (24, 6, 1, 0), (26, 5, 0, 0)]
+        body = [(33, 0, 2, 0), (37, 1, 1, 0), (33, 2, 8, 0), (33, 3, 1, 0), (34, 8, 7, 0), returns(9)]
+        after = [(35, 3, 0, 0), (35, 10, 0, 0), (35, 11, 0, 0)]
+        # the parameter is a place of an array of 6
+        for node, expect, held in (0, "done row 5 steps 17", {4: 1, 5: 0}), (1, "fail reason 4 row 10 steps 6", {4: 0, 5: 6}):
+            rows = [calls(0, node, 4), *after, calls(0, node, 4), *procedure(5, 1, *body)]
+            in_parts([B, declaration, declaration, U, U, U, *nodes, *rows], expect, {0: True, 3: 6, **held})
+        # the table T is the body: an array at each call, its cells written and read
+        rows = [calls(0, 2, 2)] * 2 + procedure(3, 1, *T[11:], returns(0))
+        lines = [MU, declaration, U, U, *T[2:11], *rows]
+        in_parts(lines, "done row 2 steps 38", {2: 5, 3: 0})
+        for pair in (0, 2), (1, 2), (0, 1), (4, 5), (2, BIG):
+            reduced(lines, 30, 1000, pair=pair, choices=written(lines, pair, 100), expect="done row 2 steps 8")
+    # an array at each call until there is no room, for arrays or for cells
+    for length, made in (0, 16), (1, 16), (256, 16), (1000, 4), (4096, 1):
+        nodes = [constant(0), constant(20), constant(length), variable(3)]
+        rows = loop(0, 0, 1, calls(0, 2, 1)) + procedure(3, 1, (37, 2, 3, 0), returns(3))
+        for declaration, kept in (P, made), (MP, 16):
+            lines = [U, U, declaration, U, *nodes, *rows]
+            plain(lines, 1000, 1, expect="room row 4 steps 1", holds={0: made, 3: length})
+            plain(lines, 1000, expect="room row 4 steps %d" % (3 + 4 * made))
+            reduced(lines, 1000, expect="room row 4 steps %d" % (3 + 4 * kept), holds={0: kept, 3: length})
+
+
+def tracked_in_procedures():
+    """Cells of tracked circuits, written in a procedure by its parameter and read in another; marked iterators of loops in main and there."""
+    # variables: iterator, array, result, the locals of procedures 0 and 1, an iterator of main's
+    nodes = [constant(0), constant(4), constant(5), variable(0), variable(1), variable(3), variable(4), variable(5), (20, 4, 5, 0), (20, 4, 6, 0)]
+    nodes += [(20, 5, 2, 0), (19, 9, 0, 0), (20, 4, 3, 0), (19, 12, 0, 0)]
+    marked, plain_one = 3, 7  # nodes of the iterators
+    # a cell gets 5 more than its place; every cell is copied to itself, and then one is the result
+    writes = procedure(3, 1, (34, 8, 10, 0), returns(5))
+    reads = procedure(4, 1, *loop(0, 0, 1, (34, 12, 13, 0)), returns(11))
+    for iterator, array in (U, P), (MU, P), (U, MP), (MU, MP):
+        head = [iterator, array, U, U, U, U, *nodes, (37, 1, 2, 0)]
+        lines = head + loop(5, 0, 1, calls(0, plain_one, 2), calls(1, plain_one, 2)) + writes + reads
+        ended = {"expect": "done row 5 steps 87", "holds": {2: 9, 3: 0, 4: 0, 5: 5}}
+        # the walk of main has the procedure's iterator
+        shared = head + loop(0, 0, 1, calls(0, marked, 2), calls(1, marked, 2)) + writes + reads
+        stops = [[stopped, 9, 1000] for stopped in (3, 4, 5, 7, 13, 40)]
+        plain(lines, 1000, **ended)
+        for runs in stops:
+            plain(lines, *runs)
+        for runs in [1000], *stops[:3]:
+            plain(shared, *runs)
+        for pair in (1, 3), (0, 1), (4, 9):
+            choices = written(lines, pair, 1000)
+            assert count(reduced(lines, 1000, pair=pair, choices=choices, **ended)[0], "choices") == len(choices)
+            for runs in stops:
+                reduced(lines, *runs, pair=pair, choices=choices)
+            for k in range(0, len(choices), 17):
+                reduced(lines, 1000, 5, pair=pair, choices=choices[:k])
+                reduced(lines, 1000, 5, pair=pair, choices=choices[:k] + [choices[k] + 1] + choices[k + 1 :])
+            for runs in [1000], *stops[:3]:
+                reduced(shared, *runs, pair=pair, choices=written(shared, pair, 1000))
+
+
+def ends_in_procedures():
+    """Each end in a procedure, two calls deep and in a loop: the record stays, and the step is taken again where it is continued."""
+    nodes = [constant(0), constant(1), constant(BIG), (18, 0, 0, 0), (20, 2, 1, 0), (21, 0, 1, 0)]
+    nodes += [variable(5), (19, 6, 0, 0), (20, 6, 1, 0), (19, 8, 0, 0)]
+    for row, end in (
+        ((35, 3, 0, 0), "assert"),
+        ((36, 3, 0, 0), "assume"),
+        ((33, 0, 4, 0), "fail reason 1"),
+        (returns(5), "fail reason 2"),
+        ((33, 0, 7, 0), "fail reason 3"),
+        (returns(9), "fail reason 3"),
+        (calls(1, 4, 0), "fail reason 1"),
+        (calls(1, 7, 3), "fail reason 3"),
+        ((37, 5, 2, 0), "room"),
+        ((38, 4, 5, 0), "fail reason 2"),
+    ):
+        rows = [calls(0, 1, 0), *procedure(1, 1, *loop(2, 0, 1, calls(1, 1, 1)), returns(1)), *procedure(3, 2, row)]
+        lines = [U, U, U, U, U, P, *nodes, *rows, *([CLOSE] if row[0] == 38 else [])]
+        each(lines, 100, 0, expect="steps row 7 steps 0", holds={1: 0, 3: 1})
+        each(lines, 100, 2, expect="%s row 7 steps 1" % end, holds={1: 0, 3: 1})
+        each(lines, 100, expect="%s row 7 steps 4" % end)
+    # the counter of a loop that opened in the procedure
+    rows = [calls(0, 1, 0), *procedure(1, 1, *loop(2, 2, 2))]
+    each([U, U, U, U, U, P, *nodes, *rows], 100, expect="fail reason 5 row 3 steps 3")
+    # the last place of an array that procedure 0 made
+    rows = [calls(0, 1, 0), *procedure(1, 1, (37, 5, 1, 0), calls(1, 7, 0), calls(1, 9, 0)), *procedure(3, 2)]
+    each([U, U, U, U, U, P, *nodes, *rows], 100, expect="fail reason 4 row 4 steps 5")
+
+
+def sixteen_procedures():
+    """As many procedures as there may be, with one to four locals each, which are not in the order of the procedures; and as many rows."""
+    counts = [1, 4, 2, 3, 1, 1, 2, 1, 1, 2, 1, 1, 3, 1, 2, 4]
+    firsts = [2 + sum(counts[:k]) for k in range(16)]
+    order = [7, 0, 12, 3, 15, 1, 9, 14, 2, 6, 11, 5, 4, 8, 10, 13]
+    # each returns its parameter, which is 3, and its last local, the parameter again where it has one
+    nodes = [constant(3)] + [variable(firsts[p]) for p in order] + [variable(firsts[p] + counts[p] - 1) for p in order]
+    nodes += [(20, 1 + p, 17 + p, 0) for p in range(16)] + [variable(0), variable(1), (20, 49, 50, 0)]
+    main = [row for p in range(16) for row in (calls(p, 0, 1), (33, 0, 51, 0))]
+    rows = [row for p in range(16) for row in procedure(firsts[order[p]], counts[order[p]], *[SKIP] * (p % 3), returns(33 + p))]
+    total = sum(6 if counts[p] == 1 else 3 for p in order)
+    lines = [U] * 32 + nodes + main + rows
+    each(lines, 1000, expect="done row 32 steps 63", holds={0: total})
+    each(lines, 13, 20, 1, 30, 1000, expect="done row 32", holds={0: total})
+    # 256 rows: of 16 procedures, each with 14 rows that do nothing
+    rows = [calls(p, 0, 0) for p in range(16)] + [row for p in range(16) for row in procedure(1 + p, 1, *[SKIP] * 14)]
+    each([U] * 17 + [constant(3), *rows], 1000, expect="done row 16 steps 256", holds={0: 0, 16: 0})
+    each([U] * 17 + [constant(3), *rows], 255, 0, 1, expect="done row 16 steps 1")
+    # of which the last is a 43, a 44, a 45
+    for last, expect in ((43, 1, 1, 0), "done row 1 steps 1"), (returns(0), "done row 1 steps 1"), (calls(0, 0, 0), "deep row 255 steps 1779"):
+        rows = [calls(0, 0, 0), *procedure(2, 1, *[SKIP] * 253, last)]
+        each([U, U, U, constant(3), *rows], 254, 5000, expect=expect)
+        each([U, U, U, constant(3), *rows], 5000, 3, expect="deep row 255 steps 1" if last[0] == 45 else "done row 1 steps 0")
+
+
 # 15: rows 2 to 7 are a loop with a loop in rows 3 to 5, rows 8 and 9 a loop; variables bool, uint, pointer, marked uint, marked pointer
 KEPT = [B, U, P, MU, MP, constant(3), constant(4), constant(0), constant(2), (37, 2, 0, 0), (37, 4, 1, 0)]
 KEPT += loop(1, 2, 3, *loop(3, 2, 3, SKIP), SKIP) + loop(1, 3, 3) + [SKIP]
@@ -970,6 +1515,203 @@ def records():
         reduced(lines, 10, 10, 10, (10, [(NUMBER, 0, 2)]), pair=(3, 5), choices=choices)
 
 
+# 15 with callers. Main has a call of procedure 0 in two loops and calls of 1 and 2; procedure 0 (rows 10 to 14, variables 3 and 4) calls 1 in a
+# loop, and 2; procedure 1 (rows 16 to 18, variable 5) calls 2; procedure 2 (rows 20 to 23, variables 6 to 9) has a loop. Row 6 would call 0 and
+# row 7 would call 1, were they taken for calls, and so would row 17 call 0.
+STACKED = [U, U, MU, *[U] * 8, constant(0), constant(1), constant(2), constant(5), variable(3), variable(5), variable(6)]
+STACKED += loop(1, 0, 2, *loop(2, 0, 1, calls(0, 3, 0))) + [calls(1, 1, 0), SKIP, (33, 1, 1, 0), calls(2, 2, 10)]
+STACKED += procedure(3, 2, *loop(4, 0, 2, calls(1, 4, 3)), calls(2, 4, 4), returns(4))
+STACKED += procedure(5, 1, calls(2, 5, 5), SKIP, returns(5))
+STACKED += procedure(6, 4, *loop(7, 0, 1, SKIP), (33, 8, 6, 0))
+# After seven steps it stands at row 21, in the loop of row 20, with these callers
+IN_MAIN, IN_FIRST, IN_SECOND = (2, [], [(0, 0, 2), (1, 0, 1)]), (11, [5, 0], [(10, 0, 2)]), (16, [5], [])
+
+
+def stack(*callers):
+    """Edits that give a record these callers."""
+    edits = [(DEPTH, 0, len(callers))]
+    for d, caller in enumerate(callers):
+        edits += [(STACK, 30 * d + slot, v) for slot, v in caller_words(*caller).items()]
+    return edits
+
+
+def stands(row, *callers, held=(), loops=()):
+    """Edits that let a record stand at a row with these callers and open loops, every local 0 but those given."""
+    return loops_at(row, *loops) + stack(*callers) + [(NUMBER, v, dict(held).get(v, 0)) for v in range(3, 10)]
+
+
+def chains():
+    """Edits of what a row, or a caller, belongs to; whether 15 refuses them."""
+    at_21 = [(20, 0, 1)]
+    around = {1: [(0, 0, 2)], 2: IN_MAIN[2], 3: IN_MAIN[2], 4: [(0, 0, 2)], 11: IN_FIRST[2], 12: IN_FIRST[2], 21: at_21, 22: at_21}
+    second, third = (5, [], []), (8, [], [])  # main calls procedures 1 and 2
+    # with no callers the row is main's, with one it is of the procedure called; past the row count it is nobody's
+    for callers, rows in ([], range(10)), ([IN_MAIN], range(10, 16)), ([second], range(16, 20)), ([third], range(20, 25)):
+        for row in (*range(26), BIG):
+            yield stands(row, *callers, loops=around.get(row, [])), row not in rows
+    # the first caller is main's
+    for callers, refused in (
+        ([third], False),
+        ([(16, [7], [])], True),
+        ([(13, [1, 2], [])], True),
+        ([IN_FIRST, IN_SECOND], True),
+        ([IN_SECOND, IN_SECOND], True),
+        # each later one is of the procedure that the one before it calls
+        ([second, IN_SECOND], False),
+        ([second, (13, [0, 0], [])], True),
+        ([second, third], True),
+        ([IN_MAIN, (13, [3, 4], [])], False),
+        ([IN_MAIN, IN_SECOND], True),
+        ([IN_MAIN, third], True),
+        ([IN_MAIN, IN_FIRST, IN_SECOND], False),
+        ([IN_MAIN, (13, [0, 0], []), IN_SECOND], True),
+        ([IN_MAIN, IN_FIRST, (13, [0, 0], [])], True),
+        ([IN_MAIN, IN_FIRST, third], True),
+        ([second, IN_FIRST, IN_SECOND], True),
+        ([third, IN_FIRST, IN_SECOND], True),
+        ([IN_MAIN, IN_MAIN, IN_FIRST, IN_SECOND], True),
+    ):
+        yield stands(21, *callers, loops=at_21), refused
+    # a caller's row that is no 45: a 32, a 33, a 38, two 39, a 43, the row count, past it; the run stands where the row's operand a would call
+    for row, called in (6, 13), (7, 17), (0, 17), (3, 13), (4, 13), (9, 13), (24, 13), (25, 13), (BIG, 13):
+        yield stands(called, (row, [], around.get(row, []))), True
+        yield stands(21, (row, [], around.get(row, [])), IN_SECOND, loops=at_21), True
+    # a later one: a 32, a 44, two 43, the row count, past it; and a 45 that calls another procedure
+    for row in (17, 18, 15, 19, 24, BIG, 16):
+        yield stands(13, second, (row, [1], [])), True
+
+
+def kept_loops():
+    """Edits of the open loops of callers, and whether 15 refuses them."""
+    for d, caller in enumerate((IN_MAIN, IN_FIRST, IN_SECOND)):
+        loops = caller[2]
+        at = 30 * d
+        # fewer, more, others
+        for n in 0, 1, 2, 3, 8, 9, 2**31, BIG:
+            given = [(STACK, at + 6 + i, 20) for i in range(len(loops), 8)] + [(STACK, at + 14 + i, 0) for i in range(len(loops), 8)]
+            yield [(STACK, at + 1, n), *given, *((STACK, at + 22 + i, 1) for i in range(len(loops), 8))], n != len(loops)
+        for i, (r, start, end) in enumerate(loops):
+            yield from (([(STACK, at + 6 + i, v)], v != r) for v in (0, 1, 2, 10, 11, 20, 2**31 + r, BIG))
+            # a start above its end
+            yield from (([(STACK, at + 14 + i, v)], v > end) for v in (0, 1, 2, 3, BIG))
+            yield from (([(STACK, at + 22 + i, v)], v < start) for v in (0, 1, 2, 9, BIG))
+            for v, w in (2, 1), (7, 7), (BIG, BIG), (BIG, BIG - 1), (2**31, 1):
+                yield [(STACK, at + 14 + i, v), (STACK, at + 22 + i, w)], v > w
+    # the loops of main the other way round; one twice; those of another row of main
+    for loops in [(1, 0, 1), (0, 0, 2)], [(0, 0, 2), (0, 0, 2)], [(1, 0, 1), (1, 0, 1)], [(0, 0, 2)], [], [(0, 0, 2), (1, 0, 1), (2, 0, 1)]:
+        yield stack((2, [], loops), IN_FIRST, IN_SECOND), True
+    # those of the procedure at work
+    for edits in [(OPEN, 0, 0)], [(OPEN, 0, 2)], [(LOOP_ROW, 0, 0)], [(LOOP_ROW, 0, 10)], [(START, 0, 2)], [(ROW, 0, 20)], [(ROW, 0, 24)]:
+        yield edits, True
+    # as many loops as are around, at a row where other loops are, and at one where there are none
+    yield stack((2, [], [(20, 0, 2), (10, 0, 1)]), IN_FIRST, IN_SECOND), True
+    yield stack(IN_MAIN, (11, [5, 0], [(20, 0, 1)]), IN_SECOND), True
+    yield stack(IN_MAIN, (13, [5, 0], [(10, 0, 2)])), True
+    yield stack(IN_MAIN, IN_FIRST, (16, [5], [(20, 0, 1)])), True
+
+
+def kept_locals():
+    """Edits of locals, and whether 15 refuses them."""
+    # of a procedure that is not at work, also of a caller's: 0 in the variables, any number where they are kept
+    yield from (([(NUMBER, v, n)], n != 0) for v in (3, 4, 5) for n in (0, 1, 5, 2**31, BIG))
+    yield from (([(NUMBER, v, n)], False) for v in (0, 1, 6, 7, 8, 9, 10) for n in (0, 5, BIG))
+    yield from (([(STACK, slot, n)], False) for slot in (32, 33, 62) for n in (0, 1, 7, BIG))
+    for row, callers, loops, work in (
+        (5, [], [], ()),
+        (9, [], [], ()),
+        (2, [], IN_MAIN[2], ()),
+        (13, [IN_MAIN], [], (3, 4)),
+        (15, [IN_MAIN], [], (3, 4)),
+        (17, [(5, [], [])], [], (5,)),
+        (17, [IN_MAIN, IN_FIRST], [], (5,)),
+        (23, [(8, [], [])], [], (6, 7, 8, 9)),
+        (24, [(5, [], []), (16, [3], [])], [], (6, 7, 8, 9)),
+    ):
+        for v in range(3, 10):
+            yield stands(row, *callers, loops=loops, held={v: 1}), v not in work
+            yield stands(row, *callers, loops=loops, held={v: BIG}), v not in work
+        yield stands(row, *callers, loops=loops, held={v: 6 for v in work}), False
+        yield stands(row, *callers, loops=loops, held={v: 6 for v in range(3, 10)}), True
+    # how many callers
+    yield from (([(DEPTH, 0, n)], n != 3) for n in (0, 1, 2, 3, 9, 10, 16, 255, 256, 259, 2**16 + 3, 2**31 + 3, BIG))
+
+
+def no_part():
+    """Edits of words of the stack that are not in use, and of the arrays beside the locals."""
+    in_use = {30 * d + slot for d, caller in enumerate((IN_MAIN, IN_FIRST, IN_SECOND)) for slot in caller_words(*caller)}
+    unused = [slot for slot in range(240) if slot not in in_use]
+    assert len(unused) == 240 - 8 - 7 - 3
+    for v in 0, 1, 45, BIG:
+        yield [(STACK, slot, v) for slot in unused]
+    yield [(STACK, slot, slot) for slot in unused] + [(BASE, v, 9) for v in range(11)]
+    yield [(STACK, slot, 9) for slot in (2, 3, 4, 5)]
+    yield [(STACK, slot, 9) for slot in (34, 35, 63, 64, 65)]
+    yield [(STACK, slot, BIG) for slot in (8, 16, 37, 45, 66, 74)]
+
+
+def callers_kept():
+    """Records with callers: each edited one, then the one before it where it is refused."""
+    choices = written(STACKED, (1, 3), 400)
+    for edits, refused in [*chains(), *kept_loops(), *kept_locals()]:
+        for run, more in (plain, {}), (reduced, {"choices": choices[:20]}):
+            out = run(STACKED, 7, (2, edits), 30, **more)
+            assert out[1].startswith("refused 15 line 0 ") == refused, (edits, out)
+            assert not refused or not out[2].startswith("refused")
+    for run, more in (plain, {}), (reduced, {"choices": choices}):
+        unchanged = run(STACKED, 7, 3, 30, 300, **more)
+        for edits in no_part():
+            out = run(STACKED, 7, (3, edits), 30, 300, **more)
+            assert out == unchanged
+        # kept locals come back as they are kept, and then the result is set, which is 0: to that of procedure 1, to the first of procedure 0
+        for slot, expect, held in (
+            (62, "steps row 17 steps 6", {5: 0}),
+            (32, "steps row 12 steps 8", {3: 0, 4: 0}),
+            (33, "steps row 12 steps 8", {3: 0, 4: 77}),
+        ):
+            run(STACKED, 7, (count(expect, "steps"), [(STACK, slot, 77)]), expect=expect, holds=held, **more)
+            run(STACKED, 7, (count(expect, "steps"), [(STACK, slot, 77)]), 300, **more)
+        # the loops of a caller, which are longer and shorter then
+        for edits in [(STACK, 52, 4)], [(STACK, 44, 2)], [(STACK, 14, 2), (STACK, 22, 3)], [(STACK, 23, 0)], [(STACK, 15, 1)]:
+            run(STACKED, 7, (6, edits), 40, 300, **more)
+
+
+def callers_of_itself():
+    """Eight callers: of a procedure that calls itself, any number from 1 to 8 may be kept; each caller is tested."""
+    # the procedure has rows 3 to 5 and two locals, and the eighth call of it stands before a ninth
+    lines = [U, U, U, constant(5), variable(1), (20, 1, 1, 0), calls(0, 0, 0), SKIP, *procedure(1, 2, (33, 2, 2, 0), calls(0, 1, 2), returns(2))]
+    each(lines, 100, expect="deep row 4 steps 17", holds={0: 0, 1: 5, 2: 10})
+    for n in (0, 9, 10, 16, 255, 256, 264, 2**31 + 8, BIG):
+        each(lines, 100, (100, [(DEPTH, 0, n)]), expect="refused 15 line 0")
+    for n in range(1, 9):
+        each(lines, 100, (100, [(DEPTH, 0, n)]), expect="deep row 4 steps %d" % (2 * (8 - n) + 1), holds={1: 5, 2: 10})
+        # from its return on, which gives 10 each time; and from its end on
+        each(lines, 100, (100, [(DEPTH, 0, n), (ROW, 0, 5)]), expect="done row 2 steps %d" % (n + 1), holds={0: 10, 1: 0, 2: 0})
+        fallen = "steps row %d steps %d" % (5 if n > 1 else 6, n - 1)
+        each(lines, 100, (n - 1, [(DEPTH, 0, n), (ROW, 0, 6), (NUMBER, 1, 4)]), expect=fallen)
+    for d in range(8):
+        at = 30 * d
+        edits = [[(STACK, at, r)] for r in (1, 2, 3, 5, 6, 7, BIG, 0 if d else 4)] + [[(STACK, at + 1, n)] for n in (1, 8, BIG)]
+        for edit in edits:
+            each(lines, 100, (9, edit), expect="refused 15 line 0")
+        # what it kept comes back, and the result over the second; main keeps none
+        edits = [(ROW, 0, 5), (STACK, at + 2, 66), (STACK, at + 3, 77)]
+        each(lines, 100, (8, edits), expect="steps row 1 steps 8", holds={0: 132 if d == 1 else 10, 1: 0, 2: 0})
+        if d > 0:
+            each(lines, 100, (8 - d, edits), expect="steps row 5 steps %d" % (8 - d), holds={0: 0, 1: 66, 2: 10})
+    # eight loops in each: their rows, starts and ends
+    lines = eight_loops(9)
+    each(lines, 1000, expect="deep row 159 steps 81")
+    for d, i in (0, 0), (0, 7), (1, 3), (3, 0), (6, 4), (7, 0), (7, 7):
+        row = (19 * d - 1 if d else 0) + i
+        for edit in [(6, row + 1)], [(6, BIG)], [(14, 1)], [(14, 9), (22, 8)]:
+            each(lines, 1000, (9, [(STACK, 30 * d + slot + i, v) for slot, v in edit]), expect="refused 15 line 0")
+        each(lines, 1000, (9, [(STACK, 30 * d + 14 + i, 8), (STACK, 30 * d + 22 + i, 8)]), expect="deep row 159 steps 1")
+        each(lines, 1000, (9, [(STACK, 30 * d + 6 + i, row)]), expect="deep row 159 steps 1")
+    for n in 0, 7, 9, BIG:
+        for d in 0, 7:
+            each(lines, 1000, (9, [(STACK, 30 * d + 1, n)]), expect="refused 15 line 0")
+
+
 def refusals():
     """Sizes of the cells, refused tables, and which refusal comes first."""
     row = (ROW, 0, 99)
@@ -1081,7 +1823,7 @@ def refused_lines():
     for v, w in (0, 1), (0, 2), (3, 0), (3, 1):
         refused_line(9, 33, (v, w, 0))
     # a kind in a table of the other sort, and kinds of no sort
-    none = (0, 4, 15, 30, 31, 43, 2**31 + 17, BIG)
+    none = (0, 4, 15, 30, 31, 46, 2**31 + 17, BIG)
     for machine, kinds in (PLAIN, (*REDUCED_ONLY, *none)), (REDUCED, (19, 26, 34, *none)):
         for kind in kinds:
             refused_line(5, kind, LINES.get(kind, (0, 0, 0)), machine=machine)
@@ -1114,13 +1856,226 @@ def refused_twice():
         case(PLAIN, T, [1], words=words, refusal=(4, 0))
 
 
-class Shuffled:
-    """A pseudo-random table that passes: arrays first, then rows of all kinds with loops up to three deep."""
+# 17: tables of variables 0 to 6, of which 5 is a pointer and 6 a bool; nodes 0 to 2 are numbers, 3 to 7 read variables 0 to 4, 8 reads the
+# pointer, 9 the bool
+LISTED = [U, U, U, U, U, P, B, constant(0), constant(1), constant(2), *(variable(v) for v in range(7))]
+OWN = 3  # the node of variable 0
 
-    def __init__(self, pick):
+
+def both_refuse(lines, number, place):
+    """Both machines refuse a table, the reduced one also with a pair that 13 refuses; place counts from the first row on."""
+    refusal = (number, len(lines) - len(Table(lines).rows) + place)
+    case(PLAIN, lines, [100], refusal=refusal)
+    case(REDUCED, Table(lines).reduced().lines, [100], pair=(3, 1), refusal=refusal)
+
+
+def refused_calls():
+    """17 of rows 45 and 44: a number that no procedure has, a marked variable, a return in main."""
+    two = procedure(1, 1) + procedure(2, 1)
+    for p, rows in (0, []), (1, procedure(1, 1)), (2, two), (16, two), (2**16 + 1, two), (2**31, two), (BIG, two):
+        both_refuse(LISTED + [calls(p, 0, 0), *rows], 17, 0)
+        both_refuse(LISTED + [SKIP, SKIP, calls(p, 0, 0), *rows], 17, 2)
+    both_refuse(LISTED + [SKIP, *procedure(1, 1, calls(1, 0, 0))], 17, 2)
+    both_refuse(LISTED + [*two, SKIP, calls(2, 0, 0)], 17, 3)
+    # the first of two, also where no run comes to it
+    both_refuse(LISTED + [calls(0, 0, 0), calls(1, 0, 0), *procedure(1, 1, calls(9, 0, 0))], 17, 1)
+    both_refuse([U, (18, 0, 0, 0), constant(0), (35, 0, 0, 0), calls(0, 1, 0)], 17, 1)
+    # the variable that gets the result is marked: never 12
+    for declarations in [MU, U, U], [U, MU, U]:
+        marked = declarations.index(MU)
+        lines = [*declarations, constant(0), constant(1)]
+        both_refuse(lines + [calls(0, 0, marked), *procedure(2, 1)], 17, 0)
+        both_refuse(lines + [calls(0, 0, 1 - marked), *procedure(2, 1, calls(0, 0, marked))], 17, 2)
+        both_refuse(lines + [*loop(marked, 0, 1, calls(0, 0, marked)), *procedure(2, 1)], 17, 1)
+        both_refuse(lines + [calls(0, 0, marked), (33, marked, 0, 0), *procedure(2, 1)], 12, 1)
+    # a return in main, before a 43 and with none
+    for rows, place in (
+        ([returns(0)], 0),
+        ([SKIP, returns(0), returns(0)], 1),
+        ([returns(0), *two], 0),
+        ([SKIP, *loop(0, 0, 1, returns(0)), *two], 2),
+        ([calls(0, 0, 0), returns(OWN), *procedure(1, 1, returns(OWN))], 1),
+    ):
+        both_refuse(LISTED + rows, 17, place)
+
+
+def refused_openings():
+    """17 of rows 43: one too many, one in a loop, a count that is not 1 to 4, a local that is marked or an earlier 43's."""
+    for n in 17, 18, 25:
+        lines = [U] * 26 + [constant(0), variable(25)]
+        opened = [row for k in range(n) for row in procedure(k, 1)]
+        both_refuse(lines + opened, 17, 16)
+        # a call of the seventeenth is no fault of its own, one of a number that none has is; so is an earlier row
+        both_refuse(lines + [calls(16, 0, 25), *opened], 17, 17)
+        both_refuse(lines + [calls(n - 1, 0, 25), *opened], 17, 17)
+        both_refuse(lines + [calls(n, 0, 25), *opened], 17, 0)
+        both_refuse(lines + [calls(15, 0, 25), returns(0), *opened], 17, 1)
+        # and so is a use of its local
+        both_refuse(lines + [(33, 16, 0, 0), *opened], 17, 0)
+        both_refuse(lines + [*opened[:16], calls(0, 0, 16), *opened[16:]], 17, 16)
+    for opens in 38, 42:
+        declared = [U if opens == 38 else MU, U, U, U, constant(0)]
+        rows = [(opens, 0, 0, 0)]
+        for machine in (PLAIN, REDUCED) if opens == 38 else (REDUCED,):
+            for given, place in (
+                ([*rows, *procedure(1, 1), CLOSE], 1),
+                ([*rows, SKIP, *procedure(1, 1), SKIP, CLOSE], 2),
+                ([*rows, CLOSE, *procedure(1, 1), *rows, *procedure(2, 1), CLOSE], 4),
+                ([(38, 3, 0, 0), *rows, *procedure(1, 1), CLOSE, *procedure(2, 1), CLOSE], 2),
+                ([(38, 3, 0, 0), *rows, CLOSE, *procedure(1, 1), CLOSE], 3),
+                # 16 compares no loop with one from before the 43
+                ([*rows, *procedure(1, 1), *rows, CLOSE, CLOSE], 1),
+                ([(38, 3, 0, 0), *rows, *procedure(1, 1), (38, 3, 0, 0), *rows, CLOSE, CLOSE, CLOSE, CLOSE], 2),
+                ([*rows, *procedure(1, 1), CLOSE, *rows, CLOSE], 1),
+            ):
+                case(machine, declared + given, [100], refusal=(17, 5 + place))
+    # counts, in tables that have so many uints, and of none at a place where none is
+    for b in 0, 5, 6:
+        both_refuse([U] * 8 + [constant(0), SKIP, *procedure(1, b), SKIP], 17, 1)
+    both_refuse([U] * 32 + [constant(0), SKIP, *procedure(0, 32), SKIP], 17, 1)
+    for a in 0, 5, 6, 7, 99, 2**31, BIG:
+        both_refuse(LISTED + [SKIP, *procedure(a, 0)], 17, 1)
+    both_refuse(LISTED + [SKIP, *procedure(0, 4), *procedure(0, 0)], 17, 2)
+    # a local that is marked, each of four; the variables around them may be
+    each([MU, U, U, U, U, MU, constant(0), SKIP, *procedure(1, 4)], 9, expect="done row 1 steps 1")
+    for k in range(4):
+        declared = [MU if v == 1 + k else U for v in range(6)]
+        both_refuse(declared + [constant(0), SKIP, *procedure(1, 4)], 17, 1)
+        both_refuse(declared + [constant(0), SKIP, *procedure(0, 1), *procedure(1 + k, 1)], 17, 2)
+    # a local of an earlier 43: the same, one of several, the last, the first
+    for first, second in ((1, 1), (1, 1)), ((1, 4), (1, 4)), ((1, 4), (4, 1)), ((1, 4), (1, 1)), ((2, 2), (1, 2)), ((1, 2), (2, 2)), ((2, 1), (1, 3)):
+        both_refuse(LISTED + [*procedure(*first), SKIP, *procedure(*second)], 17, 2)
+        both_refuse(LISTED + [*procedure(0, 1), *procedure(*first), *procedure(*second), *procedure(0, 1)], 17, 2)
+    # it stays the first one's
+    both_refuse(LISTED + [*procedure(1, 2, (33, 2, 0, 0)), *procedure(2, 2, (33, 2, 0, 0))], 17, 2)
+    both_refuse(LISTED + [calls(0, 0, 0), *procedure(1, 1, (33, 2, 0, 0)), *procedure(2, 1), *procedure(2, 1)], 17, 2)
+
+
+def refused_uses():
+    """17 of rows that use a local of a procedure where they do not stand; a node under no row, and one in both places, are no such use."""
+    local = OWN + 3  # the node of variable 3
+    below = len(LISTED) - 7  # and one above it
+    nodes = [(20, local, 0, 0), (25, 9, 0, below), (25, 9, below, 0), (20, 8, below, 0), (19, 13, 0, 0), (26, 13, 0, 0), (24, below, 0, 0)]
+    nodes += [(25, 16, 0, 1), (20, 17, 17, 0), (20, 18, 0, 0), (20, 19, 1, 0), (22, 0, 20, 0), (23, 1, below, 0), (21, 8, local, 0)]
+    nodes += [(18, 1, 0, 0), (25, 24, 24, 22)]
+    lines = LISTED + nodes
+    uints, bools, pointers = (local, below, 11, 12, 14, 17, 19, 20), (16, 21, 22, 15, 25), (13, 23)
+    rows = [(33, 3, 0, 0), (38, 3, 0, 1), calls(0, 0, 3)]
+    rows += [(33, 0, n, 0) for n in uints] + [(34, 8, n, 0) for n in uints[:3]] + [(34, n, 0, 0) for n in pointers]
+    rows += [(33, 5, n, 0) for n in pointers]
+    rows += [(k, n, 0, 0) for k in (35, 36) for n in bools] + [(33, 6, n, 0) for n in bools[:2]] + [(37, 5, n, 0) for n in uints[:4]]
+    rows += [(38, 0, n, 1) for n in uints[:3]] + [(38, 0, 1, n) for n in uints[:4]] + [calls(0, n, 0) for n in uints]
+    for row in rows:
+        shut = [CLOSE] if row[0] == 38 else []
+        # in main, before the 43 that lists it; in the procedure before it, and after it
+        both_refuse(lines + [SKIP, row, *shut, *procedure(1, 1), *procedure(3, 2)], 17, 1)
+        both_refuse(lines + [SKIP, *procedure(1, 1, row, *shut), *procedure(3, 2)], 17, 2)
+        both_refuse(lines + [SKIP, *procedure(3, 2, SKIP), *procedure(1, 1, SKIP, row, *shut)], 17, 5)
+        # in its own procedure it passes, and so do the nodes, which no row of main uses
+        case(PLAIN, lines + [SKIP, *procedure(3, 2, row, *shut), *procedure(1, 1)], [5], expect="done row 1 steps 1")
+    for n in uints:
+        both_refuse(lines + [SKIP, *procedure(1, 1, SKIP, returns(n)), *procedure(3, 2)], 17, 3)
+        both_refuse(lines + [SKIP, *procedure(3, 2, returns(n)), *procedure(1, 1, returns(n))], 17, 4)
+    both_refuse(LISTED + [SKIP, *procedure(1, 1, returns(OWN + 1)), *procedure(3, 1, returns(OWN + 3), returns(OWN + 1))], 17, 5)
+    # the row is where the 45 stands: the result goes to no local of the one that is called, unless it calls itself
+    for c in 1, 2:
+        both_refuse(LISTED + [calls(0, 0, c), *procedure(1, 2)], 17, 0)
+        both_refuse(LISTED + [calls(0, 0, 0), *procedure(3, 1, calls(1, 0, c)), *procedure(1, 2)], 17, 2)
+        each(LISTED + [calls(0, 0, 0), *procedure(1, 2, calls(0, 0, c))], 50, expect="deep row 2 steps 9")
+        each(LISTED + [calls(0, 0, 0), *procedure(1, 2, calls(1, 0, c)), *procedure(3, 1)], 50, expect="done row 1 steps 4")
+        both_refuse(LISTED + [calls(0, 0, 0), *procedure(1, 2, calls(1, 0, 3)), *procedure(3, 1)], 17, 2)
+        both_refuse(LISTED + [calls(0, OWN + c, 0), *procedure(1, 2)], 17, 0)
+    # the locals of a 43 whose count is wrong: all that it lists
+    for v in range(5):
+        both_refuse(LISTED + [SKIP, (33, v, 0, 0), SKIP, *procedure(0, 5)], 17, 1)
+        both_refuse([U] * 6 + [constant(0), variable(v), (33, 5, 1, 0), *procedure(0, 5)], 17, 0)
+    both_refuse([U] * 6 + [constant(0), (33, 5, 0, 0), *procedure(0, 5)], 17, 1)
+    # and a marked one, by the iterator of main's loop; and where the reading is a choice
+    for rows, place in (loop(1, 0, 0), 0), ([(33, 0, 1, 0)], 0), (loop(2, 0, 0), 2):
+        both_refuse([U, MU, U, constant(0), variable(1), *rows, *procedure(1, 1)], 17, place)
+    # a global that no 43 lists, in any place; a marked global, its loop and its reading
+    lines = [U, MU, U, constant(0), variable(0), variable(1), variable(2)]
+    for row in (33, 0, 1, 0), (33, 0, 2, 0), calls(0, 1, 0), calls(0, 2, 0):
+        plain(lines + [row, *procedure(2, 1, row, (33, 0, 3, 0), returns(3))], 50)
+        reduced(lines + [row, *procedure(2, 1, row, (33, 0, 3, 0), returns(3))], 50, choices=[0] * 40)
+    both(lines + [*loop(1, 0, 0, calls(0, 0, 0)), *procedure(2, 1, *loop(1, 0, 0, (33, 0, 2, 0)))], 50, expect="done row 3")
+
+
+def refused_in_order():
+    """17 after 16, 12 and the others, before 13; 7, 8 and 9 of 43, 44 and 45; 5, 6 and 11 where there are procedures."""
+    in_main = [returns(0)]
+    shared = loop(0, 0, 0, *loop(0, 0, 0))
+    for machine, own in (PLAIN, LISTED), (REDUCED, Table(LISTED).reduced().lines):
+        for pair, lent in ((1, 3), CELLS[machine]), ((3, 1), CELLS[machine]), ((1, 3), 9), ((3, 1), 9):
+            for rows in in_main, [calls(0, 0, 0)], procedure(1, 0), [(33, 1, 0, 0), *procedure(1, 1)]:
+                case(machine, own + rows, [100, (10, [(ROW, 0, 999), (DEPTH, 0, 9)])], pair=pair, lent=lent, refusal=(17, len(own)))
+    both_refuse(LISTED + in_main + shared, 16, 2)
+    both_refuse(LISTED + in_main + procedure(1, 1, *shared), 16, 3)
+    both_refuse(LISTED + loop(0, 0, 0) + procedure(1, 1, *loop(0, 0, 0)) + procedure(2, 1, SKIP, *shared), 16, 8)
+    both_refuse(LISTED + procedure(1, 1, *loop(1, 0, 0, *loop(0, 0, 0, *loop(1, 0, 0)))), 16, 3)
+    both_refuse(LISTED + in_main + [CLOSE], 11, 1)
+    both_refuse([MU, U, constant(0), *in_main, (33, 0, 0, 0)], 12, 1)
+    both_refuse([MU, U, constant(0), *in_main, *procedure(1, 1, (33, 0, 0, 0))], 12, 2)
+    both_refuse(LISTED + in_main + [(33, 0, 9, 0)], 9, 1)
+    both_refuse(LISTED + in_main + [(33, 0, 10, 0)], 8, 1)
+    both_refuse(LISTED + in_main + [(39, 1, 0, 0)], 7, 1)
+    # 11 goes across a 43: never closed, and nine in all
+    both_refuse(LISTED + [(38, 0, 0, 0), *procedure(1, 1)], 11, 0)
+    both_refuse(LISTED + [SKIP, *procedure(1, 1, CLOSE)], 11, 2)
+    both_refuse(LISTED + [SKIP, *procedure(1, 1, (38, 1, 0, 0)), *procedure(2, 1, SKIP)], 11, 2)
+    nine = [U] * 12 + [constant(0)]
+    rows = [(38, v, 0, 0) for v in range(5)] + procedure(9, 1) + [(38, v, 0, 0) for v in range(5, 9)] + [CLOSE] * 9
+    both_refuse(nine + rows, 11, 9)
+    both_refuse(nine + rows[:9] + [CLOSE] * 8, 17, 5)
+    # operands with no role; one of 43 alone, two of 44, none of 45
+    both_refuse(LISTED + [SKIP, (43, 1, 1, 1)], 7, 1)
+    both_refuse(LISTED + [SKIP, (43, 1, 0, BIG)], 7, 1)
+    for b, c in (1, 0), (0, 1), (BIG, 0), (0, BIG):
+        both_refuse(LISTED + [*procedure(1, 1), (44, 0, b, c)], 7, 1)
+        both_refuse(LISTED + [(44, 0, b, c), *procedure(1, 1)], 7, 0)
+    # locals that are not there, in whole numbers
+    for a, b in (7, 1), (6, 2), (5, 3), (4, 4), (99, 1), (BIG, 1), (BIG, 2), (2**31, 2**31), (BIG, BIG), (0, BIG), (7, BIG - 6), (2, BIG - 1), (0, 8):
+        both_refuse(LISTED + [SKIP, *procedure(a, b)], 8, 1)
+    both_refuse([U] * 4 + [constant(0), SKIP, *procedure(0, 5)], 8, 1)
+    both_refuse([U] * 4 + [constant(0), SKIP, *procedure(4, 1)], 8, 1)
+    both_refuse([constant(0), SKIP, *procedure(0, 1)], 8, 1)
+    each([U] * 4 + [constant(0), SKIP, *procedure(0, 4)], 9, expect="done row 1 steps 1")
+    each([U] * 4 + [constant(0), SKIP, *procedure(3, 1)], 9, expect="done row 1 steps 1")
+    # nodes and variables that are not there
+    for n in 10, 11, BIG:
+        both_refuse(LISTED + [SKIP, *procedure(1, 1), returns(n)], 8, 2)
+        both_refuse(LISTED + [SKIP, calls(0, n, 0), *procedure(1, 1)], 8, 1)
+    for v in 7, 8, BIG:
+        both_refuse(LISTED + [SKIP, calls(0, 0, v), *procedure(1, 1)], 8, 1)
+    # other types: each local, the node of 44, the node and the variable of 45
+    for declaration in B, P, MP:
+        for k in range(4):
+            declared = [declaration if v == 1 + k else U for v in range(6)]
+            both_refuse(declared + [constant(0), SKIP, *procedure(1, 4)], 9, 1)
+            both_refuse(declared + [constant(0), SKIP, *procedure(1 + k, 1)], 9, 1)
+            both_refuse(declared + [constant(0), SKIP, *procedure(1, 5)], 9, 1)
+        both_refuse([declaration, U, constant(0), variable(0), SKIP, *procedure(1, 1), returns(1)], 9, 2)
+        both_refuse([declaration, U, constant(0), variable(0), SKIP, calls(0, 1, 1), *procedure(1, 1)], 9, 1)
+        both_refuse([declaration, U, constant(0), variable(0), SKIP, calls(0, 0, 0), *procedure(1, 1)], 9, 1)
+    # a number of a procedure and a count are no variables and no nodes
+    each([U, U, constant(0), calls(0, 0, 0), *procedure(1, 1)], 9, expect="done row 1 steps 2")
+    both_refuse([U, U, constant(0), calls(1, 0, 0), *procedure(1, 1)], 17, 0)
+    both_refuse([U, U, constant(0), calls(7, 0, 0), *procedure(1, 1)], 17, 0)
+    # the 257th row; a kind after these
+    for row in (43, 1, 1, 0), returns(0), calls(0, 0, 0):
+        both_refuse(LISTED + [SKIP] * 256 + [row], 6, 256)
+    for kind in 46, 47, 63, 2**31 + 43:
+        both_refuse(LISTED + [SKIP, (kind, 0, 0, 0)], 5, 1)
+
+
+class Shuffled:
+    """A pseudo-random table that passes: arrays first, then rows of all kinds with loops up to three deep; then so many procedures."""
+
+    def __init__(self, pick, procedures=0):
         self.pick = pick
         self.declarations = [MU, U, MP, P, B, MU, U, MP, P][: pick.randint(4, 9)]
-        self.nodes, self.known, self.rows = [], [], []
+        self.nodes, self.known, self.rows = [], [], []  # known: type, depth and home of each node
+        self.procedures, self.home, self.owners = procedures, None, {}
         for v, (kind, _, _, _) in enumerate(self.declarations):
             self.add(kind, 16, v)
         for n in pick.sample(range(9), 4):
@@ -1132,16 +2087,36 @@ class Shuffled:
             if kind == POINTER and pick.random() < 0.9:
                 self.rows.append((37, v, self.leaf(), 0))
         self.block(pick.randint(4, 14), [])
+        for p in range(procedures):
+            self.add_procedure(p)
         self.lines = self.declarations + self.nodes + self.rows
 
+    def add_procedure(self, p):
+        """One to four locals, nodes that read them, and rows."""
+        first, count = len(self.declarations), self.pick.randint(1, 4)
+        self.home = p
+        self.declarations += [U] * count
+        for v in range(first, first + count):
+            self.owners[v] = p
+            self.add(UINT, 16, v)
+        for _ in range(self.pick.randint(2, 8)):
+            self.grow()
+        self.rows.append((43, first, count, 0))
+        self.block(self.pick.randint(0, 7), [])
+
+    def usable(self, v):
+        return self.owners.get(v) in (None, self.home)
+
     def add(self, kind, node, *operands):
-        depth = 1 if node in (16, 17, 18) else 1 + max(self.known[i][1] for i in operands)
+        leaf = node in (16, 17, 18)
+        depth = 1 if leaf else 1 + max(self.known[i][1] for i in operands)
+        own = node == 16 and operands[0] in self.owners or not leaf and any(self.known[i][2] is not None for i in operands)
         self.nodes.append((node, *operands) + (0,) * (3 - len(operands)))
-        self.known.append((kind, depth))
+        self.known.append((kind, depth, self.home if own else None))
 
     def node(self, kind):
         """A node of a type, a late one more often than not."""
-        found = [i for i, (k, depth) in enumerate(self.known) if k == kind and depth < 6]
+        found = [i for i, (k, depth, home) in enumerate(self.known) if k == kind and depth < 6 and home in (None, self.home)]
         return self.pick.choice(found[-6:] if self.pick.random() < 0.6 else found)
 
     def leaf(self):
@@ -1167,16 +2142,22 @@ class Shuffled:
             self.add(UINT, 25, len(self.nodes) - 2, len(self.nodes) - 1, self.leaf())
 
     def variable(self, *declared):
-        return self.pick.choice([v for v, d in enumerate(self.declarations) if d in declared])
+        return self.pick.choice([v for v, d in enumerate(self.declarations) if d in declared and self.usable(v)])
 
     def free(self, around):
         """The uints that are no iterator of a loop around."""
-        return [v for v, (kind, _, _, _) in enumerate(self.declarations) if kind == UINT and v not in around]
+        return [v for v, (kind, _, _, _) in enumerate(self.declarations) if kind == UINT and v not in around and self.usable(v)]
+
+    def called(self):
+        """The number of a procedure, more often than not one after this."""
+        later = 0 if self.home is None else self.home + 1
+        return self.pick.randrange(later if later < self.procedures and self.pick.random() < 0.7 else 0, self.procedures)
 
     def block(self, n, around):
         """Rows, in loops with these iterators."""
         for _ in range(n):
-            kind = self.pick.choice([32, 33, 33, 33, 34, 34, 35, 36, 37, 38, 38, 38])
+            kinds = [32, 33, 33, 33, 34, 34, 35, 36, 37, 38, 38, 38]
+            kind = self.pick.choice(kinds + [44, 45, 45, 45, 45] if self.procedures else kinds)
             if kind == 33:
                 v = self.variable(U, P, MP, B)
                 self.rows.append((33, v, self.node(self.declarations[v][0]), 0))
@@ -1192,6 +2173,10 @@ class Shuffled:
                 self.rows.append((38, iterator, self.leaf(), end))
                 self.block(self.pick.randint(1, 4), [*around, iterator])
                 self.rows.append(CLOSE)
+            elif kind == 44 and self.home is not None:
+                self.rows.append((44, self.node(UINT), 0, 0))
+            elif kind == 45:
+                self.rows.append((45, self.called(), self.node(UINT), self.variable(U)))
             else:
                 self.rows.append(SKIP)
 
@@ -1202,12 +2187,12 @@ def worth(pick, lines, limit):
     return machine.run(machine.fresh(), limit)[1] > 12 or pick.random() < 0.1
 
 
-def shuffled(tables, seed, pairs):
+def shuffled(tables, seed, pairs, procedures=0):
     """Plain runs whole and in parts; reduced runs under the true choices, damaged ones and too few. How many plain runs had which end."""
     pick = random.Random(seed)
     tally = {}
     while sum(tally.values()) < tables:
-        lines = Shuffled(pick).lines
+        lines = Shuffled(pick, procedures and pick.randint(1, procedures)).lines
         pair = pick.choice(pairs)
         limit = pick.choice([20, 60, 200])
         choices = written(lines, pair, limit)
@@ -1250,15 +2235,35 @@ def main():
     reasons_of_counters()
     reasons_in_order()
     orders()
+    examples_of_calls()
+    where_main_ends()
+    falling_off()
+    too_deep()
+    choices_of_calls()
+    returns_in_loops()
+    calls_in_loops()
+    fresh_locals()
+    results()
+    globals_in_procedures()
+    tracked_in_procedures()
+    ends_in_procedures()
+    sixteen_procedures()
     records()
+    callers_kept()
+    callers_of_itself()
     refusals()
     refused_lines()
     refused_twice()
+    refused_calls()
+    refused_openings()
+    refused_uses()
+    refused_in_order()
     tally = shuffled(150, 1, [(1, 3), (0, 2), (2, 5), (1, 6), (0, BIG)])
     neighbours = shuffled(60, 2, [(0, 1), (1, 2), (2, 3), (4, 5)])
+    called = shuffled(70, 3, [(1, 3), (0, 2), (1, 2), (2, 5), (0, BIG)], procedures=4)
     (HERE / "stdin").write_bytes(b"".join(struct.pack("<I", len(data)) + data for data, _ in CASES))
     (HERE / "stdout").write_text("".join(line + "\n" for _, out in CASES for line in out))
-    print(len(CASES), "cases,", sum(len(out) for _, out in CASES), "runs; ends of the pseudo-random tables:", tally, neighbours)
+    print(len(CASES), "cases,", sum(len(out) for _, out in CASES), "runs; ends of the pseudo-random tables:", tally, neighbours, called)
 
 
 if __name__ == "__main__":

@@ -1,25 +1,26 @@
--- A step that goes on makes an array exactly if its row is 37 or 41.
+-- A step that goes on makes an array exactly if its row is 37 or 41; at the end of a procedure it makes none.
 -- Assumes nothing.
 use mathlib.Core.Path.{_≡_, refl, subst}
 use Prim.Native.Nat.{ℕ, suc, _+_}
 use native.Mathlib.Omega.{arith as numbers}
 use mathlib.Core.Bool.{Bool, true, false}
 use mathlib.Core.List.{List, [], _∷_}
-use lib.ListN.{length, length-append}
+use lib.ListN.{length, getD, length-append}
 use lib.Dec.{ltb, leb, eqb}
 use Rattle.lists.specs.If.{if_then_else_}
 use Rattle.model.specs.Class.{class}
-use Rattle.model.specs.Table.{Table, typeAt, rowAt, Row, rowKind}
+use Rattle.model.specs.Table.{Table, typeAt, rowAt, Row, rowKind, atEnd, localsAt}
 use Rattle.model.specs.Table.Ty.{bool, uint, pointer}
-use Rattle.model.specs.Table.Row.{skip, assign, store, assert, assume, array, loop, loopEnd, reducedStore, reducedArray, classLoop, noRow}
+use Rattle.model.specs.Table.Row.{skip, assign, store, assert, assume, array, loop, loopEnd, reducedStore, reducedArray, classLoop}
+use Rattle.model.specs.Table.Row.{procedure, returns, call, noRow}
 use Rattle.model.specs.Work.{Out, Work, next, give, wrong, choose}
 use Rattle.model.specs.Work.Out.{gives, fails, badChoice, noChoice, stuck}
-use Rattle.model.specs.State.{Value, Array, Loop, State, formOf, mostArrays}
+use Rattle.model.specs.State.{Value, Array, Loop, Caller, State, formOf, mostArrays, mostCallers}
 use Rattle.model.specs.State.Value.{Uint, Class, Pointer}
 use Rattle.model.specs.Eval.{Ptr, arrayOf, variableOf, value, keeps, indexOf, sizeOf, cellsLaid, nextStart}
 use Rattle.model.specs.Step.{End, Move, past, node, setVar, withVar, withLoops, enter, put, write, reducedWrite, laidNext, addArray, newArray, loopAt}
-use Rattle.model.specs.Step.{repeatLoop, rowRule, stepAt, step, pastEnd}
-use Rattle.model.specs.Step.End.{assertFalse, assumeFalse, wantOfCells}
+use Rattle.model.specs.Step.{repeatLoop, rowRule, stepAt, step, pastEnd, firstRow, handOver, argument, withWork, callProcedure, giveBack}
+use Rattle.model.specs.Step.End.{assertFalse, assumeFalse, wantOfCells, tooDeep}
 use Rattle.model.specs.Step.Move.{to, stop}
 
 -- how many arrays there are after a row of a kind
@@ -35,7 +36,14 @@ arraysAfter loopEnd n = n
 arraysAfter reducedStore n = n
 arraysAfter reducedArray n = suc n
 arraysAfter classLoop n = n
+arraysAfter procedure n = n
+arraysAfter returns n = n
+arraysAfter call n = n
 arraysAfter noRow n = n
+
+-- ... and after a step from row r
+abbrev pub arraysNext : Table → ℕ → ℕ → ℕ
+arraysNext t r n = if atEnd t r then n else arraysAfter (rowKind (rowAt t r .kind)) n
 
 -- where it goes on there are n arrays
 abbrev Keeps : ℕ → Out Move → Type 0
@@ -109,6 +117,9 @@ module _ (ps : List ℕ) (t : Table) (s : State) where
   keep-loop s′ e r classLoop x y out cs =
       keep-next same (choose (λ v. eqb (class ps v) (class ps x)) cs) _
       (λ v cs. keep-next same (choose (λ w. eqb (class ps w) (class ps y)) cs) _ (λ w cs. keep-enter s′ e r (Class (class ps v)) v w out cs))
+  keep-loop s′ e r procedure x y out cs = tt
+  keep-loop s′ e r returns x y out cs = tt
+  keep-loop s′ e r call x y out cs = tt
   keep-loop s′ e r noRow x y out cs = tt
 
   keep-repeat : (ls : List Loop) (cs : List ℕ) → Keeps same (repeatLoop ps t s ls cs)
@@ -136,6 +147,18 @@ module _ (ps : List ℕ) (t : Table) (s : State) where
   keep-test true e cs = refl
   keep-test false e cs = tt
 
+  keep-call : (k x : ℕ) (cs : List ℕ) → Keeps same (callProcedure t s k x cs)
+  keep-call k x cs =
+      keep-if same (leb mostCallers (length (s .callers))) (give (stop tooDeep)) _ cs tt
+      (keep-next same (firstRow t k cs) _
+      (λ q cs. keep-next same (handOver (s .vars) (localsAt t (s .here .row)) (localsAt t q) (argument x) cs) _ (λ vs cs. refl)))
+
+  keep-back : (callers : List Caller) (x : ℕ) (cs : List ℕ) → Keeps same (giveBack t s callers x cs)
+  keep-back [] x cs = tt
+  keep-back (c ∷ rest) x cs =
+      keep-next same (handOver (s .vars) (localsAt t (s .here .row)) (localsAt t (c .here .row)) (λ i. getD (c .locals) i 0) cs) _
+      (λ vs cs. keep-set (withWork s (c .here) rest vs) (rowAt t (c .here .row) .c) (Uint x) same _ (λ cs. refl) cs)
+
   row-arrays : (n : ℕ) (k : Row) (a b c : ℕ) (cs : List ℕ) → Keeps (arraysAfter k same) (rowRule ps t s n k a b c cs)
   unfolding rowRule
   row-arrays n skip a b c cs = refl
@@ -152,12 +175,19 @@ module _ (ps : List ℕ) (t : Table) (s : State) where
   row-arrays n reducedArray a b c cs = keep-next (suc same) (node ps t s uint b cs) _ (λ l cs. keep-new a l true cs)
   row-arrays n classLoop a b c cs =
       keep-next same (node ps t s uint b cs) _ (λ x cs. keep-next same (node ps t s uint c cs) _ (λ y cs. keep-loop s refl n classLoop x y (pastEnd t n) cs))
+  row-arrays n procedure a b c cs = tt
+  row-arrays n returns a b c cs = keep-next same (node ps t s uint a cs) _ (λ x cs. keep-back (s .callers) x cs)
+  row-arrays n call a b c cs = keep-next same (node ps t s uint b cs) _ (λ x cs. keep-call a x cs)
   row-arrays n noRow a b c cs = tt
 
-  pub step-arrays : (cs : List ℕ) {cs′ : List ℕ} {s′ : State} → step ps t s cs ≡ gives (to s′) cs′
-      → length (s′ .arrays) ≡ arraysAfter (rowKind (rowAt t (s .here .row) .kind)) same
+  pub step-arrays : (cs : List ℕ) {cs′ : List ℕ} {s′ : State} → step ps t s cs ≡ gives (to s′) cs′ → length (s′ .arrays) ≡ arraysNext t (s .here .row) same
   unfolding step stepAt
-  step-arrays cs e =
-      subst (Keeps (arraysAfter (rowKind (rowAt t (s .here .row) .kind)) same)) e
-      (row-arrays (s .here .row) (rowKind (rowAt t (s .here .row) .kind)) (rowAt t (s .here .row) .a) (rowAt t (s .here .row) .b)
-          (rowAt t (s .here .row) .c) cs)
+  step-arrays cs e = subst (Keeps (arraysNext t (s .here .row) same)) e (go (atEnd t (s .here .row)))
+    where
+      r : ℕ
+      r = s .here .row
+
+      go : (b : Bool) → Keeps (if b then same else arraysAfter (rowKind (rowAt t r .kind)) same)
+          ((if b then giveBack t s (s .callers) 0 else rowRule ps t s r (rowKind (rowAt t r .kind)) (rowAt t r .a) (rowAt t r .b) (rowAt t r .c)) cs)
+      go true = keep-back (s .callers) 0 cs
+      go false = row-arrays r (rowKind (rowAt t r .kind)) (rowAt t r .a) (rowAt t r .b) (rowAt t r .c) cs

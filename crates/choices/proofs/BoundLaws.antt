@@ -11,11 +11,12 @@ use borrow.Author.Tests.{ltb-true}
 use Rattle.lists.specs.If.{if_then_else_}
 use Rattle.lists.proofs.FallingLaws.{value-is}
 use Rattle.table.specs.Rules.{depth, depthBy}
-use Rattle.model.specs.Table.{Table, Ty, Node, nodeKind, nodeAt, nodeRoles, typeAt, rowAt, Row, rowKind, markedUint}
+use Rattle.model.specs.Table.{Table, Ty, Node, nodeKind, nodeAt, nodeRoles, typeAt, rowAt, Row, rowKind, atEnd, markedUint}
 use Rattle.model.specs.Table.Ty.{bool, uint, pointer}
 use Rattle.model.specs.Table.Node.{variable, uintConstant, boolConstant, cell, plus, minus, less, atMost, equal, conditional, valid, classVariable}
 use Rattle.model.specs.Table.Node.{reducedCell, reducedValid, noNode}
-use Rattle.model.specs.Table.Row.{skip, assign, store, assert, assume, array, loop, loopEnd, reducedStore, reducedArray, classLoop, noRow}
+use Rattle.model.specs.Table.Row.{skip, assign, store, assert, assume, array, loop, loopEnd, reducedStore, reducedArray, classLoop}
+use Rattle.model.specs.Table.Row.{procedure, returns, call, noRow}
 use Rattle.model.specs.Work.{Out, Work}
 use Rattle.model.specs.Work.Out.{gives, fails, badChoice, noChoice, stuck}
 use Rattle.model.specs.State.{Value, Loop, State}
@@ -223,11 +224,18 @@ module _ (ps : List ℕ) (t : Table) (ks : List Bool) (s : State) where
     row-most n reducedStore a b c = omega numbers
     row-most n reducedArray a b c = omega numbers
     row-most n classLoop a b c = omega numbers
+    row-most n procedure a b c = omega numbers
+    row-most n returns a b c = let h = node-most uint a in omega (numbers, h)
+    row-most n call a b c = let h = node-most uint b in omega (numbers, h)
     row-most n noRow a b c = omega numbers
 
     pub step-most : (n : ℕ) → length (stepChoices ps t ks s n) ≤ 8192
     unfolding stepChoices
-    step-most n = row-most n (rowKind (rowAt t n .kind)) (rowAt t n .a) (rowAt t n .b) (rowAt t n .c)
+    step-most n = go (atEnd t n)
+      where
+        go : (b : Bool) → length (if b then [] else rowChoices ps t ks s n (rowKind (rowAt t n .kind)) (rowAt t n .a) (rowAt t n .b) (rowAt t n .c)) ≤ 8192
+        go true = omega numbers
+        go false = row-most n (rowKind (rowAt t n .kind)) (rowAt t n .a) (rowAt t n .b) (rowAt t n .c)
 
 -- ---- a run of k steps
 module _ (ps : List ℕ) (t : Table) (shallow : (n : ℕ) → n < t .nodes → depth t n ≤ 12) where

@@ -1,49 +1,52 @@
--- The copy of a plain table is plain, and a row recorded on it says what the table's row comes to, and its numbers.
+-- The copy of a plain table is plain; a row recorded on it fails, if it comes to nothing, and has its numbers; and the writer on it is the
+-- table's.
 -- Assumes nothing.
-use mathlib.Core.Path.{_≡_, sym, ap, _∙_, subst}
-use Prim.Native.Nat.{ℕ, _+_, _*_, _≤_, _<_}
+use mathlib.Core.Path.{_≡_, refl, sym, ap, _∙_, subst, fun-ext}
+use Prim.Native.Nat.{ℕ, zero, suc, _+_, _-_, _*_, _≤_, _<_}
 use native.Mathlib.Omega.{arith}
 use native.Mathlib.Decide.{decLe}
-use mathlib.Core.Bool.{true, false, false≢true}
+use mathlib.Core.Bool.{Bool, true, false, false≢true}
 use mathlib.Core.List.{List, []}
-use lib.ListN.{drop, List·getD-eq-default}
+use lib.ListN.{length, List·getD-eq-default}
 use lib.Dec.{ltb, leb}
 use borrow.Author.Tests.{ltb-true, le-leb, lt-leb}
+use Rattle.lists.specs.If.{if_then_else_}
 use Rattle.lists.proofs.TabLaws.{all-at}
 use Rattle.lists.proofs.BoolLaws.{and-right}
-use Rattle.table.specs.Checks.{machineOf}
+use Rattle.kinds.specs.Kinds.{machineOf}
 use Rattle.model.specs.Class.{pair}
-use Rattle.model.specs.Table.{Table, Line, isNode, lineCount, lineAt, nodeAt, rowAt}
-use Rattle.model.specs.Work.{Out}
-use Rattle.model.specs.Work.Out.{gives}
-use Rattle.model.specs.State.{MachineKind, State, Value, placesIn}
+use Rattle.model.specs.Table.{Table, Line, isNode, lineCount, lineAt, nodeAt, rowAt, rowKind, opensProcedure, atEnd, markedPointer}
+use Rattle.model.specs.State.{MachineKind, State}
 use Rattle.model.specs.State.MachineKind.{plain}
-use Rattle.model.specs.Step.{Move as ModelMove, after, run, step}
-use Rattle.model.specs.Step.Move.{to}
+use Rattle.model.specs.Step.{Move, Report, finished, step}
+use Rattle.model.specs.Step.End.{done, listFull}
+use Rattle.model.specs.Step.Report.{ended}
 use Rattle.model.specs.Accepted.{Accepted, CanHave, known}
-use Rattle.model.specs.Demand3.{Ends as Ended}
-use Rattle.model.specs.Writer.{stepChoices}
-use Rattle.model.proofs.SafeStep.{never-stuck}
+use Rattle.model.specs.Demand3.{TakesChoices}
+use Rattle.model.specs.Writer.{heldAfter, heldNext, stepChoices, writer, writes}
+use Rattle.model.proofs.KindsIn.{PlainRow}
+use Rattle.model.proofs.Typing.{plain-rows}
+use Rattle.model.proofs.Safe.{Held}
+use Rattle.model.proofs.SafeStep.{MoveOk, safe-step}
 use Rattle.prepared.specs.declared.Frame.{Frame}
 use Rattle.prepared.specs.View.{places, kindOf, tableFor}
-use Rattle.prepared.specs.Own.{Own, ownTable}
+use Rattle.prepared.specs.Own.{Own, ownTable, placesOf}
 use Rattle.prepared.specs.Same.{Same}
 use Rattle.prepared.proofs.SameLaws.{own-same}
 use Rattle.evaluators.specs.CodeAnswers.{failed}
 use Rattle.evaluators.specs.declared.answers.Failure.{Failure}
 use Rattle.evaluators.specs.declared.answers.Failure.the-variants.{Fails, BadChoice, NoChoice, Stuck}
 use Rattle.machine.specs.declared.Machine.{Machine}
-use Rattle.machine.specs.declared.Move.{Move}
 use Rattle.machine.specs.declared.Worked.{Worked}
 use Rattle.machine.specs.declared.Worked.the-variants.{Moves, Ends, Not}
-use Rattle.machine.specs.View.{stateBy, stateOf, ownState}
-use Rattle.machine.specs.CodeMoves.{stepOf, cellsOf, moveOut}
-use Rattle.recording.specs.CodePushes.{Pushed, pushed, pushAll}
-use Rattle.recording.specs.CodeRecords.{Plain, ReachedBy, heldOf, pairOf}
-use Rattle.recording.specs.CodeMoves.{ReachedMove, StepRecords}
-use Rattle.runs.specs.CodeSteps.{Ready}
-use Rattle.runs.proofs.RunLaws.{run-next}
-use Rattle.runs.proofs.ReadyLaws.{worked-same, moves-same}
+use Rattle.machine.specs.View.{stateOf, ownState}
+use Rattle.machine.specs.CodeMoves.{moveOut}
+use Rattle.recording.specs.CodePushes.{Pushed, pushed}
+use Rattle.recording.specs.CodeRecords.{Plain, ReachedBy, pairOf}
+use Rattle.recording.specs.CodeMoves.{ReachedMove}
+use Rattle.runs.specs.CodeSteps.{Ready, kept}
+use Rattle.runs.proofs.ReadyLaws.{state-same, step-same, finished-same}
+use Rattle.runs.proofs.TurnLaws.{table-going}
 use Rattle.choices.specs.CodeSteps.{countOf}
 
 -- it failed, and has a reason
@@ -55,54 +58,54 @@ HasReason Stuck = ⊥
 
 -- the kinds that the plain machine takes
 module _ (k : ℕ) (e : known plain k ≡ true) where
-  row-kind : k ≤ 39
+  row-kind : 40 ≤ k → 43 ≤ k
   unfolding known
-  row-kind = elim (decLe k 39) [ yes l ↦ l | no l ↦ absurd (large (omega arith)) ]
+  row-kind h = elim (decLe 43 k) [ yes l ↦ l | no l ↦ absurd (between (omega arith)) ]
     where
-      large : 39 < k → ⊥
-      large l = false≢true (rw (le-leb 1 k (omega arith), lt-leb k 3 (omega arith), le-leb 16 k (omega arith), lt-leb k 26 (omega arith),
-          le-leb 32 k (omega arith), lt-leb k 39 l) at e)
+      between : k < 43 → ⊥
+      between l = false≢true (rw (le-leb 1 k (omega arith), lt-leb k 3 (omega arith), le-leb 16 k (omega arith), lt-leb k 26 (omega arith),
+          le-leb 32 k (omega arith), lt-leb k 39 (omega arith), lt-leb 43 k l) at e)
 
   node-kind : isNode k ≡ true → k ≤ 26
   unfolding known
   node-kind h = elim (decLe k 26) [ yes l ↦ l | no l ↦ absurd (large (omega arith) (ltb-true k 32 (and-right (leb 16 k) (ltb k 32) h))) ]
     where
       large : 26 < k → k < 32 → ⊥
-      large l u = false≢true (rw (le-leb 1 k (omega arith), lt-leb k 3 (omega arith), le-leb 16 k (omega arith), lt-leb k 26 l, lt-leb 32 k u) at e)
+      large l u = false≢true (rw (le-leb 1 k (omega arith), lt-leb k 3 (omega arith), le-leb 16 k (omega arith), lt-leb k 26 l, lt-leb 32 k u,
+          lt-leb 43 k (omega arith)) at e)
 
-module _ (t : List ℕ) (f : Frame) (p : f .classes ≡ false) (m : Machine) (cells : List ℕ) (R : Ready t f m cells) where
+module _ (t : List ℕ) (f : Frame) (own : List ℕ) (O : Own t f own) (m : Machine) (stack cells : List ℕ) (R : Ready t f (kept m stack) cells) where
   abbrev table : Table
   table = tableFor t f
 
-  abbrev here : State
-  here = stateOf t f m cells
+  pub same : Same t f own
+  same = own-same t f own (R .laid) (kindOf f) (R .accepted) O
 
-  kind-plain : kindOf f ≡ plain
-  kind-plain = ap machineOf p
+  -- ---- a plain table
+  module _ (p : f .classes ≡ false) where
+    kind-plain : kindOf f ≡ plain
+    kind-plain = ap machineOf p
 
-  pub no-places : places f ≡ []
-  unfolding places
-  no-places = ap (λ (k : MachineKind). placesIn k (pair (f .c1) (f .c2))) kind-plain
+    no-places : places f ≡ []
+    unfolding places
+    no-places = rw kind-plain
 
-  pub accepted-plain : Accepted plain table
-  accepted-plain = subst (λ (k : MachineKind). Accepted k table) kind-plain (R .accepted)
+    accepted-plain : Accepted plain table
+    accepted-plain = subst (λ (k : MachineKind). Accepted k table) kind-plain (R .accepted)
 
-  line-known : (i : ℕ) → i < lineCount table → known plain (lineAt t i .kind) ≡ true
-  line-known = all-at (lineCount table) (λ i. known plain (lineAt t i .kind)) (accepted-plain .kinds)
+    line-known : (i : ℕ) → i < lineCount table → known plain (lineAt t i .kind) ≡ true
+    line-known = all-at (lineCount table) (λ i. known plain (lineAt t i .kind)) (accepted-plain .kinds)
 
-  node-small : (n : ℕ) → n < f .counts .nodes → nodeAt table n .kind ≤ 26
-  node-small n h =
-      let i = f .counts .decls + n in node-kind (lineAt t i .kind) (line-known i (omega arith)) (R .laid .node i (omega arith) (omega arith))
+    node-small : (n : ℕ) → n < f .counts .nodes → nodeAt table n .kind ≤ 26
+    node-small n h =
+        let i = f .counts .decls + n in node-kind (lineAt t i .kind) (line-known i (omega arith)) (R .laid .node i (omega arith) (omega arith))
 
-  row-small : (r : ℕ) → rowAt table r .kind ≤ 39
-  row-small r = elim (decLe (f .counts .rows) r) [
-    | no h ↦ row-kind (rowAt table r .kind) (line-known (f .counts .decls + f .counts .nodes + r) (omega arith))
-    | yes h ↦ let z = List·getD-eq-default t 0 {n = 4 * (f .counts .decls + f .counts .nodes + r)} (omega (arith, R .laid .whole)) in omega arith
-  ]
-
-  module _ (own : List ℕ) (O : Own t f own) where
-    same : Same t f own
-    same = own-same t f own (R .laid) (kindOf f) (R .accepted) O
+    row-plain : (r : ℕ) → 40 ≤ rowAt table r .kind → 43 ≤ rowAt table r .kind
+    row-plain r = elim (decLe (f .counts .rows) r) [
+      | no h ↦ row-kind (rowAt table r .kind) (line-known (f .counts .decls + f .counts .nodes + r) (omega arith))
+      | yes h ↦ λ l.
+          let z = List·getD-eq-default t 0 {n = 4 * (f .counts .decls + f .counts .nodes + r)} (omega (arith, R .laid .whole)) in absurd (omega arith)
+    ]
 
     pub copy-plain : Plain own
     copy-plain = record {
@@ -111,30 +114,34 @@ module _ (t : List ℕ) (f : Frame) (p : f .classes ≡ false) (m : Machine) (ce
         | yes k ↦ let z = O .noNode n k h in omega arith
         | no k ↦ let l : n < f .counts .nodes = omega arith in let z = ap (λ (l : Line). l .kind) (O .node n l) in let s = node-small n l in omega arith
       ];
-      rows = λ r. let z = ap (λ (l : Line). l .kind) (O .row r) in let s = row-small r in omega arith;
+      rows = λ r h. let z = ap (λ (l : Line). l .kind) (O .row r) in let s = row-plain r (omega (arith, h, z)) in omega (arith, s, z);
     }
 
-    module _ (inside : m .row < f .counts .rows) where
-      plainly : step (places f) table here [] ≡ step [] table here []
-      plainly = ap (λ (ps : List ℕ). step ps table here []) no-places
+    pub copy-row : (r : ℕ) → PlainRow table (rowKind (rowAt (ownTable own) r .kind)) (rowAt table r .a) (rowAt table r .b) (rowAt table r .c)
+    copy-row r =
+        subst (λ (l : Line). PlainRow table (rowKind (l .kind)) (rowAt table r .a) (rowAt table r .b) (rowAt table r .c)) (sym (O .row r))
+        (plain-rows table accepted-plain r)
 
-      -- a plain step takes no choice, and is never stuck
-      ends : {o : Out ModelMove} → step [] table here [] ≡ o → Ended [] plain table [] (after 0 here [] o (run [] table 0 1))
-      ends e =
-          subst (Ended [] plain table []) (run-next [] table 0 here [] inside 0 e)
-          (never-stuck [] plain table accepted-plain here
-              (subst (λ (k : MachineKind). CanHave [] k table here) kind-plain
-                  (subst (λ (ps : List ℕ). CanHave ps (kindOf f) table here) no-places (R .can))) 1 [])
+    -- a plain step takes no choice, and is never stuck: if it comes to nothing it has failed
+    module _ (going : finished (ownTable own) (ownState own stack m cells) ≡ false) where
+      held : (why : Failure) (n : ℕ) → step (placesOf own) (ownTable own) (ownState own stack m cells) [] ≡ moveOut own stack m cells [] (Not why n)
+          → Held (kindOf f) (MoveOk (kindOf f) (CanHave (places f) (kindOf f) table)) [] (moveOut own stack m cells [] (Not why n))
+      held why n e =
+          subst (Held (kindOf f) (MoveOk (kindOf f) (CanHave (places f) (kindOf f) table)) [])
+          (sym (step-same t f own O m stack cells R []) ∙ e)
+          (safe-step (places f) (kindOf f) table (R .accepted) (stateOf t f (kept m stack) cells) (R .can)
+              (table-going t f own O m stack cells R going) .held [])
 
-      -- ... so if it comes to nothing it has failed
-      pub only-fails : (why : Failure) (n : ℕ) → step [] table here [] ≡ moveOut own m cells [] (Not why n) → HasReason why
+      pub only-fails : (why : Failure) (n : ℕ)
+          → step (placesOf own) (ownTable own) (ownState own stack m cells) [] ≡ moveOut own stack m cells [] (Not why n) → HasReason why
       unfolding moveOut failed
       only-fails (Fails why) n e = tt
-      only-fails BadChoice n e = absurd (ends e .0)
-      only-fails NoChoice n e = absurd (ends e .0)
-      only-fails Stuck n e = absurd (ends e)
+      only-fails BadChoice n e = absurd (subst TakesChoices kind-plain (held BadChoice n e))
+      only-fails NoChoice n e = absurd (subst TakesChoices kind-plain (held NoChoice n e))
+      only-fails Stuck n e = absurd (held Stuck n e)
 
-      reached : (w : Worked) {out : List ℕ} {p : Pushed} → step [] table here [] ≡ moveOut own m cells [] w → ReachedMove w out p
+      pub reached : (w : Worked) {out : List ℕ} {p : Pushed}
+          → step (placesOf own) (ownTable own) (ownState own stack m cells) [] ≡ moveOut own stack m cells [] w → ReachedMove w out p
           → pushed out (countOf w) ≡ p
       unfolding ReachedMove ReachedBy
       reached (Moves x n) e r = r
@@ -144,23 +151,42 @@ module _ (t : List ℕ) (f : Frame) (p : f .classes ≡ false) (m : Machine) (ce
       reached (Not NoChoice n) e r = absurd (only-fails NoChoice n e)
       reached (Not Stuck n) e r = absurd (only-fails Stuck n e)
 
-      -- a recorded row
-      module _ (held before out : List ℕ) (w : Worked) (S : StepRecords own m cells held w before out) where
-        abbrev pub rowNumbers : List ℕ
-        rowNumbers = stepChoices (pair (f .c1) (f .c2)) table (heldOf (m .count) held) here (m .row)
+  -- ---- the writer
+  end-same : (r : ℕ) → atEnd (ownTable own) r ≡ atEnd table r
+  unfolding atEnd
+  end-same r = rw (O .rows) (ap (λ (l : Line). if ltb r (f .counts .rows) then opensProcedure (rowKind (l .kind)) else true) (O .row r))
 
-        pub row-is : step [] table here [] ≡ moveOut own m cells [] w
-        row-is = sym plainly ∙ worked-same t f own O m cells R inside [] 0 (S .works)
+  held-same : (r : ℕ) (ks : List Bool) → heldNext (ownTable own) r ks ≡ heldNext table r ks
+  unfolding atEnd
+  held-same r ks = rw (end-same r) (go (ltb r (f .counts .rows)) refl)
+    where
+      go : (b : Bool) → ltb r (f .counts .rows) ≡ b
+          → (if (if b then opensProcedure (rowKind (rowAt table r .kind)) else true) then ks
+          else heldAfter (rowKind (rowAt (ownTable own) r .kind)) (markedPointer (ownTable own) (rowAt (ownTable own) r .a)) ks)
+          ≡ (if (if b then opensProcedure (rowKind (rowAt table r .kind)) else true) then ks
+          else heldAfter (rowKind (rowAt table r .kind)) (markedPointer table (rowAt table r .a)) ks)
+      go true e =
+          ap (λ (ls : List Bool). if opensProcedure (rowKind (rowAt table r .kind)) then ks else ls)
+          (ap (λ (l : Line). heldAfter (rowKind (l .kind)) (markedPointer (ownTable own) (rowAt (ownTable own) r .a)) ks) (O .row r)
+          ∙ ap (λ (q : Bool). heldAfter (rowKind (rowAt table r .kind)) q ks) (same .heldNext r (ltb-true _ _ e)))
+      go false e = refl
 
-        pub goes-on : {x : Move} {n : ℕ} → w ≡ Moves x n → step [] table here [] ≡ gives (to (stateOf t f (stepOf m x) (cellsOf cells x))) (drop n [])
-        goes-on q = sym plainly ∙ moves-same t f own O m cells R inside [] 0 (S .works) q
+  writer-same : (ps : List ℕ) (k n : ℕ) (ks : List Bool) (s : State) (room : ℕ) → writer ps (ownTable own) k n ks s room ≡ writer ps table k n ks s room
+  unfolding writer
+  writer-same ps zero n ks s room = rw (finished-same t f own O m stack cells R s)
+  writer-same ps (suc k) n ks s room =
+      rw (finished-same t f own O m stack cells R s, same .choices ps ks s, same .step [] s [], held-same (s .here .row) ks)
+      (ap (λ (go : State → Report). if finished table s then ended done n s []
+          else (if leb (length xs) room then writes n s xs (step [] table s []) go else ended listFull n s []))
+      (fun-ext λ s′. writer-same ps k (suc n) (heldNext table (s .here .row) ks) s′ (room - length xs)))
+    where
+      xs : List ℕ
+      xs = stepChoices ps table ks s (s .here .row)
 
-        choices-same : stepChoices (pairOf own) (ownTable own) (heldOf (m .count) held) (ownState own m cells) (m .row) ≡ rowNumbers
-        choices-same =
-            ap (λ (vs : List Value). stepChoices (pairOf own) (ownTable own) (heldOf (m .count) held) (stateBy vs m cells) (m .row))
-                (same .vars (m .numbers) (m .bases))
-            ∙ same .choices (pairOf own) (heldOf (m .count) held) here inside
-            ∙ rw (O .first, O .second)
-
-        pub numbers-are : pushed out (countOf w) ≡ pushAll rowNumbers (pushed before 0)
-        numbers-are = reached w row-is (subst (λ (xs : List ℕ). ReachedMove w out (pushAll xs (pushed before 0))) choices-same (S .numbers))
+  -- on the copy the writer is the table's
+  pub writer-own : (limit room : ℕ) → writer (pairOf own) (ownTable own) limit 0 [] (ownState own stack m cells) room
+      ≡ writer (pair (f .c1) (f .c2)) table limit 0 [] (stateOf t f (kept m stack) cells) room
+  writer-own limit room =
+      ap (λ (s : State). writer (pairOf own) (ownTable own) limit 0 [] s room) (state-same t f own O m stack cells R m stack cells)
+      ∙ writer-same (pairOf own) limit 0 [] (stateOf t f (kept m stack) cells) room
+      ∙ rw (O .first, O .second)

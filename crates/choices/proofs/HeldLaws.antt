@@ -12,14 +12,15 @@ use lib.Dec.{ltb, eqb}
 use borrow.Author.Tests.{lt-ltb, le-ltb}
 use Rattle.lists.specs.If.{if_then_else_}
 use Rattle.lists.proofs.TabLaws.{tab-snoc, same-tab}
-use Rattle.model.specs.Table.{Table, Row, marked, markedPointer, rowAt}
-use Rattle.model.specs.Table.Row.{skip, assign, store, assert, assume, array, loop, loopEnd, reducedStore, reducedArray, classLoop, noRow}
-use Rattle.model.specs.Writer.{heldAfter}
+use Rattle.model.specs.Table.{Table, Row, marked, markedPointer, rowAt, rowKind, atEnd}
+use Rattle.model.specs.Table.Row.{skip, assign, store, assert, assume, array, loop, loopEnd, reducedStore, reducedArray, classLoop}
+use Rattle.model.specs.Table.Row.{procedure, returns, call, noRow}
+use Rattle.model.specs.Writer.{heldAfter, heldNext}
 use Rattle.model.proofs.KindsIn.{PlainRow}
 use Rattle.prepared.specs.Own.{ownTable}
 use Rattle.recording.specs.CodeRecords.{heldOf}
 use Rattle.choices.specs.CodeSteps.{flagOf, heldWith}
-use Rattle.choices.proofs.ArrayLaws.{arraysAfter}
+use Rattle.choices.proofs.ArrayLaws.{arraysAfter, arraysNext}
 
 -- ---- the flag of a row's variable, by its mark
 module _ (own : List ℕ) (row : ℕ) {a : ℕ} {b : Bool} (e : a ≡ rowAt (ownTable own) row .a) (h : b ≡ marked own 3 a) where
@@ -55,14 +56,14 @@ module _ (count : ℕ) (held : List ℕ) (flag : ℕ) where
       ∙ ap (λ (v : ℕ). heldOf count held ++ (eqb v 1 ∷ [])) (getD-set-same held count flag 0 h)
 
 -- ---- a row of a plain table makes no array, or one
-module _ (t : Table) (a : ℕ) (q : Bool) (ks : List Bool) (n : ℕ) where
+module _ (t : Table) (a b c : ℕ) (q : Bool) (ks : List Bool) (n : ℕ) where
   abbrev None : Row → Type 0
   None k = (heldAfter k q ks ≡ ks) × (arraysAfter k n ≡ n)
 
   abbrev One : Row → Type 0
   One k = (heldAfter k q ks ≡ ks ++ (q ∷ [])) × (arraysAfter k n ≡ suc n)
 
-  none-or-one : (k : Row) → PlainRow t k a → None k ⊎ One k
+  none-or-one : (k : Row) → PlainRow t k a b c → None k ⊎ One k
   none-or-one skip p = inl (refl, refl)
   none-or-one assign p = inl (refl, refl)
   none-or-one store p = inl (refl, refl)
@@ -71,9 +72,12 @@ module _ (t : Table) (a : ℕ) (q : Bool) (ks : List Bool) (n : ℕ) where
   none-or-one array p = inr (refl, refl)
   none-or-one loop p = inl (refl, refl)
   none-or-one loopEnd p = inl (refl, refl)
-  none-or-one reducedStore p = inl (refl, refl)
+  none-or-one reducedStore p = absurd p
   none-or-one reducedArray p = absurd p
-  none-or-one classLoop p = inl (refl, refl)
+  none-or-one classLoop p = absurd p
+  none-or-one procedure p = inl (refl, refl)
+  none-or-one returns p = inl (refl, refl)
+  none-or-one call p = inl (refl, refl)
   none-or-one noRow p = inl (refl, refl)
 
 -- ---- the column after a row
@@ -109,12 +113,27 @@ module _ (own : List ℕ) (count row : ℕ) (held : List ℕ) where
       rw (lt-ltb count 16 h) (held-more count held (flagOf own row) (omega arith))
       ∙ ap (λ (b : Bool). heldOf count held ++ (b ∷ [])) (flag-is (markedPointer (ownTable own) (rowAt (ownTable own) row .a)))
 
-  -- what the reduced run holds after the row k, which the record goes on from with so many arrays
-  pub held-next : (t : Table) (a : ℕ) (k : Row) → PlainRow t k a → (count′ : ℕ) → count′ ≡ arraysAfter k count → count′ ≤ 16 → length held ≡ 16
+  -- what the reduced run holds after a row that is no end
+  after-row : (t : Table) (a b c : ℕ) (k : Row) → PlainRow t k a b c → (count′ : ℕ) → count′ ≡ arraysAfter k count → count′ ≤ 16 → length held ≡ 16
       → heldOf count′ (heldWith own count row held) ≡ heldAfter k (markedPointer (ownTable own) (rowAt (ownTable own) row .a)) (heldOf count held)
-  held-next t a k p count′ e h n =
+  after-row t a b c k p count′ e h n =
       ⊎-elim
       (λ z. ap (λ (c : ℕ). heldOf c (heldWith own count row held)) (e ∙ z .1) ∙ with-none ∙ sym (z .0))
       (λ z. ap (λ (c : ℕ). heldOf c (heldWith own count row held)) (e ∙ z .1)
           ∙ with-one (let m : count′ ≡ suc count = e ∙ z .1 in omega arith) n ∙ sym (z .0))
-      (none-or-one t a (markedPointer (ownTable own) (rowAt (ownTable own) row .a)) (heldOf count held) count k p)
+      (none-or-one t a b c (markedPointer (ownTable own) (rowAt (ownTable own) row .a)) (heldOf count held) count k p)
+
+  -- ... and after a step from the row, on which the record goes on with so many arrays
+  pub held-next : (t : Table) (a b c : ℕ) → PlainRow t (rowKind (rowAt (ownTable own) row .kind)) a b c → (count′ : ℕ)
+      → count′ ≡ arraysNext (ownTable own) row count → count′ ≤ 16 → length held ≡ 16
+      → heldOf count′ (heldWith own count row held) ≡ heldNext (ownTable own) row (heldOf count held)
+  held-next t a b c p count′ e h n = go (atEnd (ownTable own) row) e
+    where
+      k : Row
+      k = rowKind (rowAt (ownTable own) row .kind)
+
+      go : (end : Bool) → count′ ≡ (if end then count else arraysAfter k count)
+          → heldOf count′ (heldWith own count row held)
+          ≡ (if end then heldOf count held else heldAfter k (markedPointer (ownTable own) (rowAt (ownTable own) row .a)) (heldOf count held))
+      go true e = ap (λ (c : ℕ). heldOf c (heldWith own count row held)) e ∙ with-none
+      go false e = after-row t a b c k p count′ e h n

@@ -21,11 +21,11 @@ use Rattle.model.specs.Step.{Report}
 use Rattle.model.specs.Writer.{writer}
 use Rattle.model.specs.Demand3.{writerRun}
 use Rattle.reduction.specs.Reduction.{placesCheck}
-use Rattle.machine.specs.declared.Machine.{Machine}
+use Rattle.machine.specs.declared.Record.{Record}
 use Rattle.prepared.specs.declared.Frame.{Frame}
 use Rattle.prepared.specs.View.{places, kindOf, tableFor}
 use Rattle.machine.specs.View.{stateOf}
-use Rattle.machine.specs.CodeFresh.{freshRecord}
+use Rattle.machine.specs.CodeFresh.{freshMachine, freshRecord}
 use Rattle.runs.specs.Checks.{frameOf, runChecks}
 use Rattle.runs.proofs.LendLaws.{lends, ready-fresh, state-fresh}
 use Rattle.runs.specs.declared.Ran.{Ran}
@@ -89,14 +89,14 @@ module _ (t cells₀ : List ℕ) (c1 c2 : ℕ) {v : Verdict} (q : v ≡ writerCh
       (node-depth plain t (passing plain t (table-passes (pair c1 c2) t (length cells₀) (sym q ∙ p))))
 
   -- a fresh record, in cells that are all zero
-  module _ {m : Machine} {cells : List ℕ} (begun : m ≡ freshRecord t f) (zeros : cells ≡ replicate (length cells₀) 0) where
+  module _ {m : Record} {cells : List ℕ} (begun : m ≡ freshRecord t f) (zeros : cells ≡ replicate (length cells₀) 0) where
     pub begins : Begins t f m cells
-    unfolding freshRecord
+    unfolding freshMachine
     begins = record {
       ready = ready-fresh t f cells₀ lent m cells begun zeros;
       plain = ap (λ (f : Frame). f .classes) i;
       shallow = shallow;
-      none = ap (λ (m : Machine). m .count) begun;
+      none = ap (λ (m : Record). m .machine .count) begun;
     }
 
     fresh-is : stateOf t f m cells ≡ fresh [] plain (tableOf t)

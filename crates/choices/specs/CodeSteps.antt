@@ -12,6 +12,7 @@ use Rattle.model.specs.Class.{pair}
 use Rattle.model.specs.Step.{Report}
 use Rattle.model.specs.Writer.{writer}
 use Rattle.machine.specs.declared.Machine.{Machine}
+use Rattle.machine.specs.declared.Record.{Record}
 use Rattle.prepared.specs.declared.Frame.{Frame}
 use Rattle.prepared.specs.View.{tableFor}
 use Rattle.machine.specs.View.{stateOf}
@@ -27,11 +28,11 @@ use Rattle.runs.specs.declared.Ran.{Ran}
 use Rattle.choices.specs.Ends.{reportOf}
 
 -- a plain table that passes its checks, and a record with no arrays
-pub record Begins (t : List ℕ) (f : Frame) (m : Machine) (cells : List ℕ) : Type 0 where
-  pub ready : Ready t f m cells
+pub record Begins (t : List ℕ) (f : Frame) (r : Record) (cells : List ℕ) : Type 0 where
+  pub ready : Ready t f r cells
   pub plain : f .classes ≡ false
   pub shallow : (n : ℕ) → n < f .counts .nodes → depth (tableFor t f) n ≤ mostDepth
-  pub none : m .count ≡ 0
+  pub none : r .machine .count ≡ 0
 
 -- ---- which arrays the reduced run holds reduced (rule 4.7): what is kept of the array that a row makes, at the place of the next array
 abbrev pub flagOf : List ℕ → ℕ → ℕ
@@ -55,10 +56,10 @@ failedEnd Stuck = Code.OutOfSteps
 
 -- A row that does not go on, after n steps, with the numbers up to `at` written: it counts, and so do they (rule 2.29). None that goes on is
 -- asked of, so what stands for it is never handed back.
-abbrev pub stoppedOf : Worked → ℕ → ℕ → Machine → Ran
-stoppedOf (Moves x next) n at m = ran Code.OutOfSteps (suc n) at m
-stoppedOf (Ends e next) n at m = ran e (suc n) at m
-stoppedOf (Not why next) n at m = ran (failedEnd why) (suc n) at m
+abbrev pub stoppedOf : Worked → ℕ → ℕ → Machine → List ℕ → Ran
+stoppedOf (Moves x next) n at m stack = ran Code.OutOfSteps (suc n) at m stack
+stoppedOf (Ends e next) n at m stack = ran e (suc n) at m stack
+stoppedOf (Not why next) n at m stack = ran (failedEnd why) (suc n) at m stack
 
 -- what is handed back is a report; its numbers are in the list, which is otherwise as it was lent (rule 4.10)
 pub record Writes (t : List ℕ) (f : Frame) (r : Ran) (cells list lent : List ℕ) (said : Report) : Type 0 where
@@ -67,6 +68,6 @@ pub record Writes (t : List ℕ) (f : Frame) (r : Ran) (cells list lent : List �
   pub kept : drop (r .used) list ≡ drop (r .used) lent
 
 -- ... of the writer from a record on, with a limit
-abbrev pub WriterWrites : List ℕ → Frame → Machine → List ℕ → List ℕ → ℕ → Ran → List ℕ → List ℕ → Type 0
-WriterWrites t f m cells lent limit r cells′ list =
-    Writes t f r cells′ list lent (writer (pair (f .c1) (f .c2)) (tableFor t f) limit 0 [] (stateOf t f m cells) (length lent))
+abbrev pub WriterWrites : List ℕ → Frame → Record → List ℕ → List ℕ → ℕ → Ran → List ℕ → List ℕ → Type 0
+WriterWrites t f r cells lent limit z cells′ list =
+    Writes t f z cells′ list lent (writer (pair (f .c1) (f .c2)) (tableFor t f) limit 0 [] (stateOf t f r cells) (length lent))

@@ -17,7 +17,7 @@ use Rattle.model.specs.Demand3.{wantsCells, plainRun, choiceList, Matched, Full
 use Rattle.reduction.specs.Reduction.{placesCheck, reduceAnswer, reduceBuffer}
 use Rattle.runs.specs.Answers.{Said, freshSaid, continuedSaid}
 use Rattle.runs.specs.Answers.Said.{reports}
-use Rattle.runs.specs.RecordPromises.{CanBe}
+use Rattle.records.specs.RecordPromises.{CanBe}
 use Rattle.runs.specs.Promises.{SaysRight}
 use Rattle.choices.specs.Answers.{wroteSaid, writerSaid}
 use Rattle.choices.specs.Answers.Said.{refusal, writes}

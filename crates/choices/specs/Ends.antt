@@ -10,4 +10,4 @@ use Rattle.runs.specs.declared.Ran.{Ran}
 
 -- end, steps, the record with the cells, and the numbers written
 abbrev pub reportOf : List ℕ → Frame → Ran → List ℕ → List ℕ → Report
-reportOf t f r cells list = ended (endOf (r .end)) (r .steps) (stateOf t f (r .machine) cells) (take (r .used) list)
+reportOf t f r cells list = ended (endOf (r .end)) (r .steps) (stateOf t f (r .«record») cells) (take (r .used) list)

@@ -4,6 +4,7 @@ mod marks;
 mod steps;
 
 use machine::Machine;
+use machine::Record;
 use machine::steps::zero_all;
 use reduction::check_pair;
 use runs::Answered;
@@ -54,8 +55,10 @@ pub fn write_choices(
     };
     zero_all(cells);
     let f = frame_of(t, false, c1, c2);
-    let m = Machine::fresh(t, f);
-    let ran = write_steps(m, t, cells, list, f, limit);
+    let r = Record::fresh(t, f);
+    let m = r.machine;
+    let stack = r.stack;
+    let ran = write_steps(m, stack, t, cells, list, f, limit);
     Answered {
         verdict: Verdict::Passes,
         ran,

@@ -1,7 +1,7 @@
 // Which arrays the reduced run holds reduced.
+use kinds::is_marked;
 use machine::Machine;
-use machine::loops::row_word;
-use table::marks::is_marked;
+use prepared::own::row_word;
 ghost use mathlib.Core.Path.{_≡_};
 ghost use Rattle.choices.specs.CodeSteps.{flagOf, heldWith};
 

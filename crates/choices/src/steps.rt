@@ -1,9 +1,13 @@
 // The loop of the choice writer.
 use crate::marks::hold;
+use calls::DEPTH;
+use calls::call;
+use calls::give_back;
 use evaluators::answers::Failure;
 use machine::End;
 use machine::Machine;
 use machine::Move;
+use machine::Record;
 use machine::Worked;
 use machine::steps::zero;
 use prepared::Frame;
@@ -11,11 +15,12 @@ use prepared::copies::copy;
 use prepared::own::lay_out;
 use recording::moves::recorded_move;
 use runs::Ran;
+use runs::steps::map_own;
 ghost use mathlib.Core.Path.{_≡_};
 ghost use Prim.Native.Nat.{_+_, _<_, _≤_};
 ghost use lib.ListN.{length};
 ghost use lib.Seq.{paste};
-ghost use Rattle.runs.specs.CodeSteps.{ran};
+ghost use Rattle.runs.specs.CodeSteps.{kept, ran};
 ghost use Rattle.choices.specs.CodeSteps.{Begins, countOf, failedEnd, stoppedOf, WriterWrites};
 
 // How many numbers a row has.
@@ -39,14 +44,15 @@ fn write_numbers(list: &mut [u32], at: usize, numbers: &[u32], n: usize) -> usiz
 }
 
 // An end after so many steps, with so many numbers written.
-fn wrote_to(end: End, steps: u32, at: usize, machine: Machine) -> Ran
-    ensures { λ r. ⌜ r ≡ ran end steps at machine ⌝ }
+fn wrote_to(end: End, steps: u32, at: usize, machine: Machine, stack: [u32; 241]) -> Ran
+    ensures { λ r. ⌜ r ≡ ran end steps at machine stack ⌝ }
 {
+    let record = Record { machine, stack };
     Ran {
         end,
         steps,
         used: at as u64,
-        machine,
+        record,
     }
 }
 
@@ -63,14 +69,14 @@ fn failed_end(why: Failure) -> End
 }
 
 // A row that did not go on, after so many steps, with the row's numbers written.
-fn stopped(w: Worked, steps: u32, at: usize, machine: Machine) -> Ran
+fn stopped(w: Worked, steps: u32, at: usize, machine: Machine, stack: [u32; 241]) -> Ran
     requires { ⌜ steps < 4294967295 ⌝ }
-    ensures { λ r. ⌜ r ≡ stoppedOf w steps at machine ⌝ }
+    ensures { λ r. ⌜ r ≡ stoppedOf w steps at machine stack ⌝ }
 {
     match w {
-        Worked::Ends(end, _) => wrote_to(end, steps + 1, at, machine),
-        Worked::Not(why, _) => wrote_to(failed_end(why), steps + 1, at, machine),
-        Worked::Moves(_, _) => wrote_to(End::OutOfSteps, steps + 1, at, machine),
+        Worked::Ends(end, _) => wrote_to(end, steps + 1, at, machine, stack),
+        Worked::Not(why, _) => wrote_to(failed_end(why), steps + 1, at, machine, stack),
+        Worked::Moves(_, _) => wrote_to(End::OutOfSteps, steps + 1, at, machine, stack),
     }
 }
 
@@ -78,35 +84,55 @@ fn stopped(w: Worked, steps: u32, at: usize, machine: Machine) -> Ran
 // the change is made by the methods of a step, each in an arm of its own, since `step` is quick with one caller only.
 pub fn write_steps(
     mut m: Machine,
+    mut stack: [u32; 241],
     t: &[u32],
     cells: &mut [u32],
     list: &mut [u32],
     f: Frame,
     limit: u32,
 ) -> Ran
-    requires { ⌜ Begins (now t) f m (now cells) ⌝ }
-    ensures { λ r. ⌜ WriterWrites (now (t .entry)) f m (now (cells .entry)) (now (list .entry)) limit r (now (cells .exit)) (now (list .exit)) ⌝ }
+    requires { ⌜ Begins (now t) f (kept m stack) (now cells) ⌝ }
+    ensures { λ r. ⌜ WriterWrites (now (t .entry)) f (kept m stack) (now (cells .entry)) (now (list .entry)) limit r (now (cells .exit))
+        (now (list .exit)) ⌝ }
 {
     let mut own = [0u32; 5256];
     lay_out(t, f, &mut own);
+    let mut map = [0u32; 273];
+    map_own(&own, &mut map);
+    let end = map[0];
     let mut numbers = [0u32; 8192];
     let mut held = [0u8; 16];
     let mut at: usize = 0;
     let mut steps: u32 = 0;
-    while (m.row as usize) < f.counts.rows {
+    while (m.row < end) | (0 < stack[DEPTH]) {
         if steps == limit {
-            return wrote_to(End::OutOfSteps, steps, at, m);
+            return wrote_to(End::OutOfSteps, steps, at, m, stack);
         }
         let w = recorded_move(
-            &own, cells, &mut numbers, m.row, &m.numbers, &m.bases, m.open, &m.loop_rows, &m.starts, &m.ends, m.count, &m.firsts, &m.lengths, &m.shapes, &held,
+            &own,
+            cells,
+            &mut numbers,
+            m.row,
+            &m.numbers,
+            &m.bases,
+            m.open,
+            &m.loop_rows,
+            &m.starts,
+            &m.ends,
+            m.count,
+            &m.firsts,
+            &m.lengths,
+            &m.shapes,
+            &held,
+            stack[DEPTH],
         );
         let n = count_of(w);
         if list.len() - at < n {
-            return wrote_to(End::ListFull, steps, at, m);
+            return wrote_to(End::ListFull, steps, at, m, stack);
         }
         at = write_numbers(list, at, &numbers, n);
         let Worked::Moves(change, _) = w else {
-            return stopped(w, steps, at, m);
+            return stopped(w, steps, at, m, stack);
         };
         hold(&own, &mut held, m.count, m.row);
         steps = steps + 1;
@@ -123,7 +149,23 @@ pub fn write_steps(
             }
             Move::Enters(a, number, row, depth, from, upto) => m = m.enter(a, number, row, depth, from, upto),
             Move::Leaves(a, number, depth, next) => m = m.leave(a, number, depth, next),
+            Move::Calls(k, x) => {
+                let mut numbers2 = m.numbers;
+                let rows = m.loop_rows;
+                let starts = m.starts;
+                let ends = m.ends;
+                let next = call(&own, &map, &mut stack, &mut numbers2, m.row, m.open, &rows, &starts, &ends, k, x);
+                m = m.begin(numbers2, next);
+            }
+            Move::Returns(x) => {
+                let mut numbers2 = m.numbers;
+                let mut rows = m.loop_rows;
+                let mut starts = m.starts;
+                let mut ends = m.ends;
+                let back = give_back(&own, &map, &mut stack, &mut numbers2, &mut rows, &mut starts, &mut ends, m.row, x);
+                m = m.resume(numbers2, rows, starts, ends, back);
+            }
         }
     }
-    wrote_to(End::Done, steps, at, m)
+    wrote_to(End::Done, steps, at, m, stack)
 }

@@ -41,10 +41,11 @@ use Rattle.model.specs.Class.{pair}
 use Rattle.model.specs.Reduce.{reduce}
 use Rattle.model.specs.Demand3.{plainRun, reducedRun, choiceList}
 use Rattle.model.proofs.Demand3Proof.{fresh-can}
-use Rattle.runs.specs.Record.{recordFits, recordCheck}
+use Rattle.records.specs.Record.{recordFits}
+use Rattle.runs.specs.Checks.{recordCheck}
 use Rattle.runs.specs.Checks.{runChecks}
 use Rattle.runs.specs.Answers.{saidBy, ranSaid, freshSaid, continuedSaid}
-use Rattle.runs.proofs.RecordLaws.{fits-can}
+use Rattle.records.proofs.RecordLaws.{fits-can}
 use Rattle.choices.specs.Checks.{writerChecks}
 use Rattle.choices.specs.Answers.{wroteSaid, writerSaid}
 use Rattle.choices.specs.Answers.Said.{writes}

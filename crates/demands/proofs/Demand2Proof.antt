@@ -15,7 +15,7 @@ use Rattle.model.proofs.ClassLaws.{cell-for-each-place}
 use Rattle.model.proofs.PairLaws.{pair-accepted, pair-class, pair-tracked, pair-held}
 use Rattle.model.proofs.EvalLaws.{eval-is}
 use Rattle.model.proofs.ReduceLaws.{length-reduce, reduce-kind, reduce-a, reduce-b, reduce-c}
-use Rattle.runs.proofs.RecordLaws.{fits-can, can-fits}
+use Rattle.records.proofs.RecordLaws.{fits-can, can-fits}
 use Rattle.runs.proofs.RunPromises.{fresh-ends, continued-ends}
 use Rattle.demands.specs.Demand2.{RunByRule, Demand2}
 

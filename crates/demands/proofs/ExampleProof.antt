@@ -10,6 +10,8 @@ use Rattle.lists.specs.First.{walk}
 use Rattle.lists.specs.Falling.{valuesBelow, valueAt}
 use Rattle.model.specs.Class.{acceptedPlaces, class, tracked, pair}
 use Rattle.model.specs.Table.{tableOf, typeOf, marked, nodeKind, rowKind, matchingEnd, declarationRoles, nodeRoles, rowRoles, openAt}
+use Rattle.model.specs.Table.{atEnd, home}
+use Rattle.model.specs.Procedures.{owner, nodeUses, usesOwn, keepsProcedures}
 use Rattle.model.specs.Accepted.{known, nodeThere, rowThere, nodeType, nodeTyped, rowTyped, misnested, nodeSuitsMark, rowSuitsMark}
 use Rattle.model.specs.State.{MachineKind, fresh, cellCount}
 use Rattle.model.specs.State.MachineKind.{plain, reduced}
@@ -17,7 +19,9 @@ use Rattle.model.specs.Eval.{cellsLaid, rule, evalF, eval}
 use Rattle.model.specs.Step.{finished, rowRule, stepAt, step, run}
 use Rattle.model.specs.Reduce.{reducedKind, reduce}
 use Rattle.table.specs.declared.Verdict.the-variants.{Passes}
-use Rattle.table.specs.Rules.{breaks5, breaks6, rolesOf, breaks7, breaks8, breaks9, depth, breaks10, breaks11, breaks12, any, sharesIterator, breaks16}
+use Rattle.kinds.specs.Kinds.{rolesOf}
+use Rattle.table.specs.Rules.{breaks5, breaks6, breaks7, breaks8, breaks9, depth, breaks10, breaks11, breaks12, any, sharesIterator, breaks16}
+use Rattle.procedures.specs.Misplaced.{breaks17}
 use Rattle.table.specs.Checks.{breaks, firstRefusal, tableCheck}
 use Rattle.table.proofs.PromiseProofs.{reduction-passes}
 use Rattle.reduction.specs.Reduction.{placesCheck, reduceAnswer, reduceBuffer}
@@ -29,7 +33,7 @@ T-passes : tableCheck plain T ≡ Passes
 unfolding listed tab sum all walk valuesBelow valueAt tableOf typeOf marked nodeKind rowKind matchingEnd
     declarationRoles nodeRoles rowRoles openAt known nodeThere rowThere nodeType nodeTyped rowTyped misnested nodeSuitsMark rowSuitsMark
     breaks5 breaks6 rolesOf breaks7 breaks8 breaks9 depth breaks10 breaks11 breaks12 sharesIterator breaks16 breaks firstRefusal tableCheck
-    any T
+    any home owner nodeUses usesOwn keepsProcedures breaks17 T
 T-passes = refl
 
 places-pass : placesCheck (pair 1 3) ≡ Passes
@@ -65,7 +69,7 @@ module _ (limit : ℕ) (choices : List ℕ) where
 -- ---- the list, run by run
 pub examples-hold : ExamplesHold
 unfolding listed tab sum all walk class tracked acceptedPlaces tableOf typeOf marked nodeKind rowKind matchingEnd fresh cellsLaid
-    rule evalF eval rowRule stepAt step finished run reducedKind reduce T results expected
+    rule evalF eval rowRule stepAt step atEnd finished run reducedKind reduce T results expected
 examples-hold =
     rw (T-passes, T-reduces, Q-passes, run-Q 100 (0 ∷ 4 ∷ 0 ∷ 0 ∷ 0 ∷ 9 ∷ []), run-Q 100 (1 ∷ []), run-Q 100 [], run-Q 0 [],
         run-is plain [] T [] 0 T-passes refl, run-is plain [] [] [] 0 (none-passes plain) refl,

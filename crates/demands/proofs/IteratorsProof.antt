@@ -37,8 +37,9 @@ use Rattle.demands.proofs.NeighboursProof.{start-can}
 one-loop-at-a-time : OneLoopAtATime
 one-loop-at-a-time m ps t pass s start choices n r after =
     let C : CanHave ps m (tableOf t) r =
-    after-can ps m (tableOf t) (accepted m t (passing m t pass)) n s r (start-can m ps (tableOf t) s start .can) choices after in
-    subst (λ (rows : List ℕ). AllDiffer (iteratorsOf (tableOf t) rows)) (sym (C .loops)) (open-differ m t pass (r .here .row) (C .row))
+    after-can ps m (tableOf t) (accepted m t (passing m t pass)) n s r
+        (start-can m ps (tableOf t) (accepted m t (passing m t pass)) s start .can) choices after in
+    subst (λ (rows : List ℕ). AllDiffer (iteratorsOf (tableOf t) rows)) (sym (C .here .loops)) (open-differ m t pass (r .here .row) (C .here .row))
 
 runs-refuse : (m : MachineKind) (t : List ℕ) (number place : ℕ) → tableCheck m t ≡ Refused number place → RunsRefuse m t number place
 unfolding freshSaid continuedSaid runChecks

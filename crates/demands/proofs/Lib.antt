@@ -6,5 +6,6 @@ pub mod Demand2Proof
 pub mod ReasonsProof
 pub mod NeighboursProof
 pub mod IteratorsProof
+pub mod ProceduresProof
 pub mod Demand3Proof
 pub mod ExampleProof

@@ -13,26 +13,28 @@ use Rattle.table.proofs.Passing.{passing, accepted}
 use Rattle.model.specs.Class.{class, pair}
 use Rattle.model.specs.Table.{Table, tableOf}
 use Rattle.model.specs.State.{MachineKind, State}
+use Rattle.model.specs.Accepted.{Accepted}
 use Rattle.model.proofs.ClassLaws.{cell-for-each-place, class-held}
 use Rattle.model.proofs.PairLaws.{empty-between}
 use Rattle.model.proofs.Demand3Proof.{fresh-can}
 use Rattle.model.proofs.Kept.{fresh-regular}
 use Rattle.model.proofs.EmptyClassLaws.{holds-none, never-holds-empty, run-hands-back}
-use Rattle.runs.specs.Record.{recordFits}
-use Rattle.runs.specs.RecordPromises.{CanBe}
-use Rattle.runs.proofs.RecordLaws.{fits-can}
+use Rattle.records.specs.Record.{recordFits}
+use Rattle.records.specs.RecordPromises.{CanBe}
+use Rattle.records.proofs.RecordLaws.{fits-can}
 use Rattle.demands.specs.Neighbours.{Starts, NoStateHoldsEmpty, EmptyRefused, Neighbours, cellsFor}
 use Rattle.demands.proofs.RefusalLaws.{pair-checked}
 
 -- a run starts from a state that its table can have
-pub start-can : (m : MachineKind) (ps : List ℕ) (t : Table) (s : State) → Starts m ps t s → CanBe m ps t s
-start-can m ps t s (inl e) = rw e (record { can = fresh-can ps m t; regular = fresh-regular ps m t })
-start-can m ps t s (inr e) = fits-can m ps t s e
+pub start-can : (m : MachineKind) (ps : List ℕ) (t : Table) → Accepted m t → (s : State) → Starts m ps t s → CanBe m ps t s
+start-can m ps t A s (inl e) = rw e (record { can = fresh-can ps m t; regular = fresh-regular ps m t A })
+start-can m ps t A s (inr e) = fits-can m ps t s e
 
 no-state-holds-empty : NoStateHoldsEmpty
 no-state-holds-empty m ps t pass s start choices nl n r after =
-    let B = start-can m ps (tableOf t) s start in
-    never-holds-empty ps m (tableOf t) (accepted m t (passing m t pass)) s (B .can) (B .regular) choices nl n r after
+    let A = accepted m t (passing m t pass) in
+    let B = start-can m ps (tableOf t) A s start in
+    never-holds-empty ps m (tableOf t) A s (B .can) (B .regular) choices nl n r after
 
 empty-refused : EmptyRefused
 empty-refused m ps t s i k e empty = go (recordFits m ps t s) refl

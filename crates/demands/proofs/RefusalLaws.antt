@@ -22,7 +22,8 @@ use Rattle.model.specs.Class.{acceptedPlaces, pair}
 use Rattle.model.proofs.PairLaws.{pair-accepted}
 use Rattle.model.specs.Table.{Table, tableOf}
 use Rattle.model.specs.State.{MachineKind, State}
-use Rattle.runs.specs.Record.{recordFits, recordCheck}
+use Rattle.records.specs.Record.{recordFits}
+use Rattle.runs.specs.Checks.{recordCheck}
 use Rattle.demands.specs.Refusals.{Place, Number, counted, placesOf, tableNumbers, pairNumbers, bufferNumbers, recordNumbers, OneOf}
 use Rattle.demands.specs.Refusals.Place.{atStart, atBlock, atLine}
 use Rattle.demands.specs.Demand1.{linesOf, Checked}

@@ -1,6 +1,6 @@
 -- "The answer to any file, table, pair, record or choice list is a result or one of the fifteen numbers in document 01, at the place named
 -- there; a refusal writes to none of the buffers it was lent, and each run stops by its step limit."
--- (rules 10.1, 10.2.) One number has come since: 16. Proved in proofs/Demand1Proof.
+-- (rules 10.1, 10.2.) Two numbers have come since: 16 and 17. Proved in proofs/Demand1Proof.
 use mathlib.Core.Path.{_≡_}
 use Prim.Native.Nat.{ℕ, _/_, _≤_}
 use mathlib.Core.List.{List, [], _++_}

@@ -19,7 +19,7 @@ use Rattle.model.specs.Step.{finished, step, after, run}
 use Rattle.model.specs.Step.End.{done, outOfSteps}
 use Rattle.model.specs.Step.Report.{ended}
 use Rattle.runs.specs.Promises.{FreshEnds, ContinuedEnds}
-use Rattle.runs.specs.RecordPromises.{FitsCan, CanFits}
+use Rattle.records.specs.RecordPromises.{FitsCan, CanFits}
 
 -- a line of the reduced table has its operands, and another kind only where the reduction says so (rules 3.3, 3.4)
 pub record ReducedLine (P : List ℕ) (i : ℕ) : Type 0 where

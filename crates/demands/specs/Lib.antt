@@ -6,5 +6,6 @@ pub mod Demand2
 pub mod Reasons
 pub mod Neighbours
 pub mod Iterators
+pub mod Procedures
 pub mod Demand3
 pub mod Examples

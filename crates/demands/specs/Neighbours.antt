@@ -22,7 +22,8 @@ use Rattle.model.specs.Eval.{sizeOf}
 use Rattle.model.specs.Step.{made}
 use Rattle.model.specs.Demand3.{Numbers}
 use Rattle.model.specs.EmptyClasses.{StateAfter, NoEmptyClass, RunHandsBackOne}
-use Rattle.runs.specs.Record.{recordFits, recordCheck}
+use Rattle.records.specs.Record.{recordFits}
+use Rattle.runs.specs.Checks.{recordCheck}
 
 -- 13 exactly where c1 is not below c2 (rule 6.18)
 abbrev pub PairBelow : Type 0

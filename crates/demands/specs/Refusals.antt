@@ -21,7 +21,7 @@ counted p n = record { number = n; place = p }
 abbrev pub fileNumbers : List Number
 fileNumbers = counted atStart 1 ∷ counted atBlock 2 ∷ counted atBlock 3 ∷ []
 
--- a table: 4, then the checks of lines in their own order, 5 to 12 and 16 (rules 6.9 to 6.17, 6.23)
+-- a table: 4, then the checks of lines in their own order, 5 to 12, 16 and 17 (rules 6.9 to 6.17, 6.23, 6.24)
 abbrev pub tableNumbers : List Number
 tableNumbers = counted atStart 4 ∷ map (counted atLine) order
 
@@ -39,11 +39,11 @@ recordNumbers = counted atStart 15 ∷ []
 abbrev pub allNumbers : List Number
 allNumbers = fileNumbers ++ (tableNumbers ++ (pairNumbers ++ (bufferNumbers ++ recordNumbers)))
 
--- they are sixteen: the fifteen of the demand, and 16, which is tested after 12 (rules 6.2, 9.19)
+-- they are seventeen: the fifteen of the demand, and 16 and 17, which are tested after 12 (rules 6.2, 9.19)
 abbrev pub TheNumbers : Type 0
 TheNumbers =
     map (λ (n : Number). n .number) allNumbers
-    ≡ 1 ∷ 2 ∷ 3 ∷ 4 ∷ 5 ∷ 6 ∷ 7 ∷ 8 ∷ 9 ∷ 10 ∷ 11 ∷ 12 ∷ 16 ∷ 13 ∷ 14 ∷ 15 ∷ []
+    ≡ 1 ∷ 2 ∷ 3 ∷ 4 ∷ 5 ∷ 6 ∷ 7 ∷ 8 ∷ 9 ∷ 10 ∷ 11 ∷ 12 ∷ 16 ∷ 17 ∷ 13 ∷ 14 ∷ 15 ∷ []
 
 -- how many places there are, with so many blocks and lines
 abbrev pub placesOf : ℕ → ℕ → Place → ℕ

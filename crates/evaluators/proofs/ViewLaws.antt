@@ -34,6 +34,7 @@ use Rattle.prepared.specs.declared.Form.{Form}
 use Rattle.prepared.specs.declared.Form.the-variants.{Bool as FBool, Uint as FUint, Class as FClass, Pointer as FPointer}
 use Rattle.prepared.specs.View.{varsBy, byForm, arrayIn, arraysOf}
 use Rattle.prepared.specs.Own.{declsOf, ownForm, ownVars, placesOf}
+use Rattle.prepared.proofs.VarLaws.{valueIn}
 use Rattle.evaluators.specs.declared.answers.Failure.the-variants.{BadChoice, NoChoice, Stuck}
 use Rattle.evaluators.specs.declared.answers.Answer.{Answer}
 use Rattle.evaluators.specs.declared.answers.Answer.the-variants.{Bool as ABool, Uint as AUint, Pointer as APointer, Not}
@@ -81,9 +82,6 @@ module _ (ok : ℕ → Bool) (l : List ℕ) (at : ℕ) {x : Choice} (read : x �
   chosen-none p = said-not uint (rw (none-left l at (sym read ∙ p) .1))
 
 -- ---- the variables
-abbrev pub valueIn : List ℕ → List ℕ → List ℕ → ℕ → Value
-valueIn own ns bs a = byForm (ownForm own a) (getD ns a 0) (getD bs a 0)
-
 module _ (own ns bs : List ℕ) (a : ℕ) where
   pub var-in : a < declsOf own → (cs : List ℕ) → variableOf (ownVars own ns bs) a cs ≡ gives (valueIn own ns bs a) cs
   unfolding varsBy

@@ -1,15 +1,16 @@
 -- Laws of lists given place by place, of sums and of tests at every number below a bound.
 -- Assumes nothing.
-use Prim.Native.Nat.{ℕ, zero, suc, _+_, _<_, _≤_}
+use Prim.Native.Nat.{ℕ, zero, suc, _+_, _-_, _<_, _≤_}
 use native.Mathlib.Omega.{arith}
 use native.Mathlib.Numerals.{add-one}
+use native.Mathlib.Decide.{ℕ-discrete}
 use native.Mathlib.Nat.{not-suc-le-zero, eq-or-lt-of-le, le-of-suc-le-suc}
 use mathlib.Core.Path.{_≡_, refl, sym, ap, _∙_}
-use mathlib.Core.Logic.{⊎-elim}
+use mathlib.Core.Logic.{⊎-elim, _≢_}
 use mathlib.Core.Bool.{Bool, true, false, _&&_, false≢true}
 use mathlib.Core.List.{List, [], _∷_, _++_}
-use lib.ListN.{length, getD, take, set, length-take, List·getD-eq-default}
-use lib.Seq.{take-suc-set, take-all, ext-getD, getD-take}
+use lib.ListN.{length, getD, take, set, length-take, length-set, List·getD-eq-default}
+use lib.Seq.{take-suc-set, take-all, ext-getD, getD-take, getD-set-same, getD-set-other}
 use Rattle.lists.specs.Tab.{listed, tab, sum, all, padded}
 
 length-listed : {A : Type 0} (n i : ℕ) (f : ℕ → A) → length (listed n i f) ≡ n
@@ -123,3 +124,35 @@ module _ (l : List ℕ) (from : ℕ) where
   zero-more m i h past e =
       let short : length (take from l) ≤ i = simp length-take (omega arith) in
       tab-more _ m i 0 h e (sym (List·getD-eq-default (take from l) 0 short))
+
+-- ---- one place replaced
+pub set-tab : {A : Type 0} (d : A) (n a : ℕ) (v : A) (old new : ℕ → A) → a < n → new a ≡ v → ((i : ℕ) → i ≢ a → new i ≡ old i)
+    → tab n new ≡ set (tab n old) a v
+set-tab d n a v old new h there other = ext-getD d (tab n new) (set (tab n old) a v) same-long at
+  where
+    same-long : length (tab n new) ≡ length (set (tab n old) a v)
+    same-long = length-tab n new ∙ sym (length-set (tab n old) a v ∙ length-tab n old)
+
+    at : (i : ℕ) → i < length (tab n new) → getD (tab n new) i d ≡ getD (set (tab n old) a v) i d
+    at i l =
+        let k : i < n = rw (length-tab n new) at l in
+        at-tab n new d i k ∙ elim (ℕ-discrete i a) [
+          | yes e ↦ rw e (there ∙ sym (getD-set-same (tab n old) a v d (rw (length-tab n old) h)))
+          | no e ↦ other i e ∙ sym (getD-set-other (tab n old) a i v d e ∙ at-tab n old d i k)
+        ]
+
+-- ---- the first place before the others
+listed-later : {A : Type 0} (n i : ℕ) (f : ℕ → A) → listed n (suc i) f ≡ listed n i (λ j. f (suc j))
+unfolding listed
+listed-later zero i f = refl
+listed-later (suc n) i f = ap (λ l. f (suc i) ∷ l) (listed-later n (suc i) f)
+
+tab-cons : {A : Type 0} (n : ℕ) (f : ℕ → A) → tab (suc n) f ≡ f 0 ∷ tab n (λ i. f (suc i))
+unfolding tab listed
+tab-cons n f = ap (λ l. f 0 ∷ l) (listed-later n 0 f)
+
+-- ... and the last place before the others, where the last is the first of the list
+pub tab-last : {A : Type 0} (n : ℕ) (f : ℕ → A) → tab (suc n) (λ i. f (suc n - suc i)) ≡ f n ∷ tab n (λ i. f (n - suc i))
+tab-last n f =
+    let top : suc n - suc 0 ≡ n = omega arith in
+    tab-cons n (λ i. f (suc n - suc i)) ∙ rw top (ap (λ l. f n ∷ l) (same-tab n _ _ (λ i h. ap f (omega arith))))

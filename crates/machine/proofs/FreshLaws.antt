@@ -13,7 +13,7 @@ use types.Run.{OneOf, miss}
 use denote.Enum.Declared.{tagOf}
 use Rattle.lists.specs.If.{if_then_else_}
 use Rattle.lists.specs.Tab.{tab}
-use Rattle.lists.proofs.TabLaws.{at-tab, same-tab}
+use Rattle.lists.proofs.TabLaws.{at-tab, same-tab, set-tab}
 use Rattle.model.specs.Class.{class, pair}
 use Rattle.model.specs.Table.{Ty, typeAt}
 use Rattle.model.specs.Table.Ty.{bool, uint, pointer}
@@ -24,8 +24,7 @@ use Rattle.prepared.specs.declared.Frame.{Frame}
 use Rattle.prepared.specs.declared.Form.{Form}
 use Rattle.prepared.specs.declared.Form.the-variants.{Bool as FBool, Uint as FUint, Class as FClass, Pointer as FPointer}
 use Rattle.prepared.specs.View.{byForm, kindOf, places, formFor, formIn, tableFor, varsBy, varsOf}
-use Rattle.machine.specs.CodeFresh.{freshRecord, freshVars, startByForm, startNumber}
-use Rattle.machine.proofs.PutLaws.{set-tab}
+use Rattle.machine.specs.CodeFresh.{freshMachine, freshVars, startByForm, startNumber}
 
 -- ---- the number that a variable starts with, by its form
 module _ (t : List ℕ) (f : Frame) (i : ℕ) where
@@ -88,8 +87,8 @@ module _ (t : List ℕ) (f : Frame) where
       go false uint = refl
       go false pointer = refl
 
-  pub fresh-vars : f .counts .decls ≤ 32 → varsOf t f (freshRecord t f .numbers) (freshRecord t f .bases) ≡ freshVars t f
-  unfolding varsBy freshRecord freshVars
+  pub fresh-vars : f .counts .decls ≤ 32 → varsOf t f (freshMachine t f .numbers) (freshMachine t f .bases) ≡ freshVars t f
+  unfolding varsBy freshMachine freshVars
   fresh-vars few =
       same-tab (f .counts .decls) (λ i. byForm (formIn t f i) (getD (tab 32 (startedTo t f (f .counts .decls))) i 0) (getD (replicate 32 0) i 0))
       (startOf (places f) (kindOf f) (tableFor t f))

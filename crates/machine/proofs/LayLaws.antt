@@ -26,6 +26,7 @@ use Rattle.model.specs.Step.End.{wantOfCells}
 use Rattle.model.specs.Step.Move.{to, stop}
 use Rattle.prepared.specs.View.{byForm, arrayIn, arraysOf}
 use Rattle.prepared.specs.Own.{placesOf, declsOf, ownForm}
+use Rattle.prepared.proofs.VarLaws.{vars-value}
 use Rattle.evaluators.specs.declared.answers.Failure.the-variants.{Stuck}
 use Rattle.evaluators.specs.declared.answers.Answer.{Answer}
 use Rattle.evaluators.specs.CodeAnswers.{Answers, operand}
@@ -35,9 +36,9 @@ use Rattle.machine.specs.declared.Move.the-variants.{Lays}
 use Rattle.machine.specs.declared.End.the-variants.{WantOfCells}
 use Rattle.machine.specs.declared.Worked.the-variants.{Moves, Ends, Not}
 use Rattle.machine.specs.View.{ownState}
-use Rattle.machine.specs.CodeMoves.{withLaid, stepOf, cellsOf, moveOut, CanDo, Works, RowWorks}
+use Rattle.machine.specs.CodeMoves.{withLaid, stateAfter, moveOut, CanDo, Works, RowWorks}
 use Rattle.machine.specs.CodeRows.{fitsIn, sizeFor, sizeAt, usedIn, lacksRoom, layOf, laidOf}
-use Rattle.machine.proofs.PutLaws.{works-same, works-stuck, works-uint, fits-both, fits-below, held-pointer, vars-value, set-to, set-off, lends}
+use Rattle.machine.proofs.PutLaws.{works-same, works-stuck, works-uint, fits-both, fits-below, held-pointer, set-to, set-off, lends}
 
 -- ---- the cells in use
 used-snoc : (ps : List ℕ) (rs : List Array) (r : Array) → cellsLaid ps (rs ++ (r ∷ [])) ≡ cellsLaid ps rs + sizeOf ps r
@@ -105,7 +106,7 @@ module _ (n u len : ℕ) (fs ls hs : List ℕ) where
   arrays-more false hf hl hh = rw (add-one n) (arrays-push 0 hf hl hh)
 
 -- ---- what the row comes to, for columns of their lengths
-module _ (own : List ℕ) (m : Machine) (cells l : List ℕ) (few : declsOf own ≤ 32) (long : length (m .numbers) ≡ 32) (wide : length (m .bases) ≡ 32)
+module _ (own stack : List ℕ) (m : Machine) (cells l : List ℕ) (few : declsOf own ≤ 32) (long : length (m .numbers) ≡ 32) (wide : length (m .bases) ≡ 32)
     (firsts : length (m .firsts) ≡ 16) (lengths : length (m .lengths) ≡ 16) (shapes : length (m .shapes) ≡ 16) (reduced : Bool) (a : ℕ) where
   abbrev arrays : List Array
   arrays = arraysOf (m .count) (m .firsts) (m .lengths) (m .shapes)
@@ -118,7 +119,7 @@ module _ (own : List ℕ) (m : Machine) (cells l : List ℕ) (few : declsOf own 
 
   -- the state with the pointer set
   abbrev pointing : State
-  pointing = withVar (ownState own m cells) a start
+  pointing = withVar (ownState own stack m cells) a start
 
   module _ (len at : ℕ) where
     abbrev size : ℕ
@@ -148,7 +149,7 @@ module _ (own : List ℕ) (m : Machine) (cells l : List ℕ) (few : declsOf own 
           )
 
       state-laid : m .count < 16
-          → ownState own (withLaid m a used len reduced) (cleared used size cells) ≡ past (withArray (placesOf own) pointing len reduced)
+          → ownState own stack (withLaid m a used len reduced) (cleared used size cells) ≡ past (withArray (placesOf own) pointing len reduced)
       state-laid few′ =
           let below : a < declsOf own = fits-both own (m .numbers) a 3 e .0 in
           rw (
@@ -159,9 +160,9 @@ module _ (own : List ℕ) (m : Machine) (cells l : List ℕ) (few : declsOf own 
           )
 
       room-works : (d : Bool) → lacking ≡ d
-          → Works own m cells l (if d then Ends WantOfCells at else Moves (Lays a used len size reduced) at)
+          → Works own stack m cells l (if d then Ends WantOfCells at else Moves (Lays a used len size reduced) at)
           (gives (if d then stop wantOfCells else to (past (withArray (placesOf own) pointing len reduced))) (drop at l))
-      unfolding moveOut CanDo stepOf cellsOf
+      unfolding moveOut CanDo stateAfter
       room-works true q = record { said = refl; can = tt }
       room-works false q =
           let b = room-both (m .count) used size (length cells) q in
@@ -170,35 +171,35 @@ module _ (own : List ℕ) (m : Machine) (cells l : List ℕ) (few : declsOf own 
     abbrev onArray : State → Work Move
     onArray s = give (addArray (placesOf own) s len reduced)
 
-    lay-works : Works own m cells l (layOf own (m .numbers) (m .lengths) (m .shapes) (m .count) (length cells) reduced a len at)
-        (newArray (placesOf own) (ownState own m cells) a len reduced (drop at l))
+    lay-works : Works own stack m cells l (layOf own (m .numbers) (m .lengths) (m .shapes) (m .count) (length cells) reduced a len at)
+        (newArray (placesOf own) (ownState own stack m cells) a len reduced (drop at l))
     unfolding layOf
     lay-works = go (fitsIn own (m .numbers) a 3) refl
       where
         go : (b : Bool) → fitsIn own (m .numbers) a 3 ≡ b
-            → Works own m cells l (if b then (if lacking then Ends WantOfCells at else Moves (Lays a used len size reduced) at) else Not Stuck at)
-            (newArray (placesOf own) (ownState own m cells) a len reduced (drop at l))
+            → Works own stack m cells l (if b then (if lacking then Ends WantOfCells at else Moves (Lays a used len size reduced) at) else Not Stuck at)
+            (newArray (placesOf own) (ownState own stack m cells) a len reduced (drop at l))
         go true e =
             works-same (room-works e lacking refl)
             (ap (λ (o : Move). gives o (drop at l)) (sym added)
-            ∙ sym (ap (λ (o : Out State). next o onArray) (set-to own m cells a start (drop at l) (λ q. absurd (omega arith)) e)))
+            ∙ sym (ap (λ (o : Out State). next o onArray) (set-to own stack m cells a start (drop at l) (λ q. absurd (omega arith)) e)))
         go false e =
-            works-stuck (sym (ap (λ (o : Out State). next o onArray) (set-off own m cells a start (drop at l) (λ q. absurd (omega arith)) e)))
+            works-stuck (sym (ap (λ (o : Out State). next o onArray) (set-off own stack m cells a start (drop at l) (λ q. absurd (omega arith)) e)))
 
 -- ---- 37 and 41
-module _ (own : List ℕ) (m : Machine) (cells l : List ℕ) (few : declsOf own ≤ 32) (long : length (m .numbers) ≡ 32) (wide : length (m .bases) ≡ 32)
+module _ (own stack : List ℕ) (m : Machine) (cells l : List ℕ) (few : declsOf own ≤ 32) (long : length (m .numbers) ≡ 32) (wide : length (m .bases) ≡ 32)
     (firsts : length (m .firsts) ≡ 16) (lengths : length (m .lengths) ≡ 16) (shapes : length (m .shapes) ≡ 16) (a b c : ℕ) (cs : List ℕ) (x : Answer)
     (p : Answers uint l x (operand (lends own m cells) uint 1024 b cs)) where
   laid-works : (reduced : Bool)
-      → Works own m cells l (laidOf own (m .numbers) (m .lengths) (m .shapes) (m .count) (length cells) reduced a x)
-      (next (operand (lends own m cells) uint 1024 b cs) (λ len. newArray (placesOf own) (ownState own m cells) a len reduced))
-  laid-works reduced = works-uint x _ _ p (lay-works own m cells l few long wide firsts lengths shapes reduced a)
+      → Works own stack m cells l (laidOf own (m .numbers) (m .lengths) (m .shapes) (m .count) (length cells) reduced a x)
+      (next (operand (lends own m cells) uint 1024 b cs) (λ len. newArray (placesOf own) (ownState own stack m cells) a len reduced))
+  laid-works reduced = works-uint x _ _ p (lay-works own stack m cells l few long wide firsts lengths shapes reduced a)
 
-  pub lays-plain : RowWorks own m cells l array a b c cs (laidOf own (m .numbers) (m .lengths) (m .shapes) (m .count) (length cells) false a x)
+  pub lays-plain : RowWorks own stack m cells l array a b c cs (laidOf own (m .numbers) (m .lengths) (m .shapes) (m .count) (length cells) false a x)
   unfolding rowRule operand
   lays-plain = laid-works false
 
-  pub lays-reduced : RowWorks own m cells l reducedArray a b c cs (laidOf own (m .numbers) (m .lengths) (m .shapes) (m .count) (length cells) true a x)
+  pub lays-reduced : RowWorks own stack m cells l reducedArray a b c cs (laidOf own (m .numbers) (m .lengths) (m .shapes) (m .count) (length cells) true a x)
   unfolding rowRule operand
   lays-reduced = laid-works true
 

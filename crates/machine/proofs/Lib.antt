@@ -4,5 +4,6 @@ pub mod PutLaws
 pub mod LayLaws
 pub mod WriteLaws
 pub mod LoopLaws
+pub mod TurnLaws
 pub mod StepLaws
 pub mod FreshLaws

@@ -23,7 +23,8 @@ use Rattle.lists.proofs.TabLaws.{length-tab, at-tab, same-tab, all-at}
 use Rattle.model.specs.Class.{class}
 use Rattle.model.specs.Table.{Table, Row, rowAt, rowKind, rowKinds, matchingEnd}
 use Rattle.model.specs.Table.Ty.{uint}
-use Rattle.model.specs.Table.Row.{skip, assign, store, assert, assume, array, loop, loopEnd, reducedStore, reducedArray, classLoop, noRow}
+use Rattle.model.specs.Table.Row.{skip, assign, store, assert, assume, array, loop, loopEnd, reducedStore, reducedArray, classLoop}
+use Rattle.model.specs.Table.Row.{procedure, returns, call, noRow}
 use Rattle.model.specs.Work.{Out, Work, next, give, wrong, choose}
 use Rattle.model.specs.Work.Out.{gives, stuck}
 use Rattle.model.specs.State.{Value, Loop, State, formOf, position}
@@ -41,35 +42,16 @@ use Rattle.machine.specs.declared.Machine.{Machine}
 use Rattle.machine.specs.declared.Move.the-variants.{Enters, Leaves}
 use Rattle.machine.specs.declared.Worked.{Worked}
 use Rattle.machine.specs.declared.Worked.the-variants.{Moves, Not}
-use Rattle.machine.specs.View.{loopIn, loopsOf, ownState}
-use Rattle.machine.specs.CodeMoves.{columns, entered, exited, stepOf, cellsOf, moveOut, CanDo, Works, RowWorks}
+use Rattle.calls.specs.Stack.{loopIn, loopsOf}
+use Rattle.calls.proofs.StackLaws.{loops-split}
+use Rattle.machine.specs.View.{ownState}
+use Rattle.machine.specs.CodeMoves.{columns, entered, exited, stateAfter, moveOut, CanDo, Works, RowWorks}
 use Rattle.machine.specs.CodeMoves.{loopRow, iterOf, outBy, outer, LoopFits, LoopWorks}
 use Rattle.machine.specs.CodeRows.{lostOf, fitsIn, iterForm, iterNumber, wayOut, leaveOf, entryOf}
 use Rattle.machine.proofs.PutLaws.{works-same, works-stuck, fits-below, vars-iterator, set-to, set-off, lends}
 use Rattle.machine.proofs.WriteLaws.{works-by, row-uint, row-lost}
 
 -- ---- the open loops
-noLoop : Loop
-noLoop = record { row = 0; start = 0; end = 0 }
-
-pub loops-split : (d : ℕ) (rs ss es : List ℕ) → loopsOf (suc d) rs ss es ≡ loopIn rs ss es d ∷ loopsOf d rs ss es
-unfolding loopsOf
-loops-split d rs ss es =
-    ext-getD noLoop (tab (suc d) inner) (loopIn rs ss es d ∷ tab d rest) (length-tab (suc d) inner ∙ sym (ap suc (length-tab d rest))) at
-  where
-    inner : ℕ → Loop
-    inner i = loopIn rs ss es (suc d - suc i)
-
-    rest : ℕ → Loop
-    rest i = loopIn rs ss es (d - suc i)
-
-    at : (i : ℕ) → i < length (tab (suc d) inner) → getD (tab (suc d) inner) i noLoop ≡ getD (loopIn rs ss es d ∷ tab d rest) i noLoop
-    at zero l = let e : suc d - suc 0 ≡ d = omega numbers in at-tab (suc d) inner noLoop 0 (omega numbers) ∙ ap (loopIn rs ss es) e
-    at (suc j) l =
-        let h : suc j < suc d = rw (length-tab (suc d) inner) at l in
-        let e : suc d - suc (suc j) ≡ d - suc j = omega numbers in
-        at-tab (suc d) inner noLoop (suc j) h ∙ ap (loopIn rs ss es) e ∙ sym (at-tab d rest noLoop j (omega numbers))
-
 pub loops-push : (d r x y : ℕ) (rs ss es : List ℕ) → d < length rs → d < length ss → d < length es
     → loopsOf (suc d) (set rs d r) (set ss d x) (set es d y) ≡ opened r x y ∷ loopsOf d rs ss es
 unfolding loopsOf
@@ -131,7 +113,7 @@ module _ (own : List ℕ) (here row : ℕ) (again : Bool) (few : rowsOf own ≤ 
   way-near e f = subst Near (sym e ∙ f) near
 
 -- ---- loop entry
-module _ (own : List ℕ) (m : Machine) (cells l : List ℕ) (row : ℕ) (c : Bool) (from upto depth : ℕ) (again : Bool) (at : ℕ)
+module _ (own stack : List ℕ) (m : Machine) (cells l : List ℕ) (row : ℕ) (c : Bool) (from upto depth : ℕ) (again : Bool) (at : ℕ)
     (fits : LoopFits own (m .numbers) (m .row) row depth) (hr : length (m .«loop_rows») ≡ 8) (hs : length (m .starts) ≡ 8) (he : length (m .ends) ≡ 8) where
   abbrev a : ℕ
   a = rowAt (ownTable own) row .a
@@ -149,7 +131,7 @@ module _ (own : List ℕ) (m : Machine) (cells l : List ℕ) (row : ℕ) (c : Bo
       columns (m .row) (m .numbers) (m .bases) depth (m .«loop_rows») (m .starts) (m .ends) (m .count) (m .firsts) (m .lengths) (m .shapes)
 
   abbrev inside : State
-  inside = withVar (ownState own around cells) a iter
+  inside = withVar (ownState own stack around cells) a iter
 
   abbrev out : Work ℕ
   out = outBy again (m .row) (ownTable own) row
@@ -176,25 +158,25 @@ module _ (own : List ℕ) (m : Machine) (cells l : List ℕ) (row : ℕ) (c : Bo
         go true = refl
         go false = refl
 
-    entered-state : ownState own (entered m a v row depth from upto) cells
+    entered-state : ownState own stack (entered m a v row depth from upto) cells
         ≡ withHere inside (position (suc row) (opened row from upto ∷ inside .here .loops))
     entered-state =
         let d = fits .depth in
         rw (vars, add-one row, add-one depth, loops-push depth row from upto (m .«loop_rows») (m .starts) (m .ends) (omega numbers) (omega numbers)
             (omega numbers))
 
-    exited-state : (q : ℕ) → ownState own (exited m a v depth q) cells ≡ goTo inside q
+    exited-state : (q : ℕ) → ownState own stack (exited m a v depth q) cells ≡ goTo inside q
     exited-state q = rw vars
 
-    leaves : Works own m cells l (leaveOf (wayOut own (m .row) row again) a v depth at) (next (out (drop at l)) (λ q. give (to (goTo inside q))))
-    unfolding wayOut moveOut stepOf cellsOf CanDo
+    leaves : Works own stack m cells l (leaveOf (wayOut own (m .row) row again) a v depth at) (next (out (drop at l)) (λ q. give (to (goTo inside q))))
+    unfolding wayOut moveOut stateAfter CanDo
     leaves = by again
       where
-        by-way : (q : ℕ) → q ≤ 256 → Works own m cells l (Moves (Leaves a v depth q) at) (gives (to (goTo inside q)) (drop at l))
+        by-way : (q : ℕ) → q ≤ 256 → Works own stack m cells l (Moves (Leaves a v depth q) at) (gives (to (goTo inside q)) (drop at l))
         by-way q h = record { said = ap (λ (s : State). gives (to s) (drop at l)) (exited-state q); can = (a-below, h) }
 
         past : (b : Bool) → ltb (matchingEnd (ownTable own) row) (rowsOf own) ≡ b
-            → Works own m cells l (leaveOf (if b then At (suc (matchingEnd (ownTable own) row)) else Nothing) a v depth at)
+            → Works own stack m cells l (leaveOf (if b then At (suc (matchingEnd (ownTable own) row)) else Nothing) a v depth at)
                 (next ((if_then_else_ {A = Work ℕ} b (give (suc (matchingEnd (ownTable own) row))) wrong) (drop at l)) (λ q. give (to (goTo inside q))))
         past true u =
             let h : matchingEnd (ownTable own) row < rowsOf own = ltb-true _ _ u in
@@ -202,7 +184,7 @@ module _ (own : List ℕ) (m : Machine) (cells l : List ℕ) (row : ℕ) (c : Bo
             by-way (suc (matchingEnd (ownTable own) row)) (omega numbers)
         past false u = works-stuck refl
 
-        by : (g : Bool) → Works own m cells l (leaveOf (wayOut own (m .row) row g) a v depth at)
+        by : (g : Bool) → Works own stack m cells l (leaveOf (wayOut own (m .row) row g) a v depth at)
             (next (outBy g (m .row) (ownTable own) row (drop at l)) (λ q. give (to (goTo inside q))))
         by true = by-way (suc (m .row)) (fits .here)
         by false = past (ltb (matchingEnd (ownTable own) row) (rowsOf own)) refl
@@ -212,35 +194,35 @@ module _ (own : List ℕ) (m : Machine) (cells l : List ℕ) (row : ℕ) (c : Bo
       else (λ cs. next (out cs) (λ q. give (to (goTo s q))))
 
   abbrev entering : Out Move
-  entering = enter (ownTable own) (outer own m cells depth) row iter from upto out (drop at l)
+  entering = enter (ownTable own) (outer own stack m cells depth) row iter from upto out (drop at l)
 
   goes : fitsIn own (m .numbers) a (iterForm c) ≡ true → (b : Bool)
-      → Works own m cells l (if b then Moves (Enters a v row depth from upto) at else leaveOf (wayOut own (m .row) row again) a v depth at)
+      → Works own stack m cells l (if b then Moves (Enters a v row depth from upto) at else leaveOf (wayOut own (m .row) row again) a v depth at)
           ((if_then_else_ {A = Work Move} b (give (to (withHere inside (position (suc row) (opened row from upto ∷ inside .here .loops)))))
           (λ cs. next (out cs) (λ q. give (to (goTo inside q))))) (drop at l))
-  unfolding moveOut stepOf cellsOf CanDo
+  unfolding moveOut stateAfter CanDo
   goes e true = record { said = ap (λ (s : State). gives (to s) (drop at l)) (entered-state e); can = (a-below e, fits .row, fits .depth) }
   goes e false = leaves e
 
-  pub entry-works : Works own m cells l (entryOf own (m .numbers) (m .row) row c from upto depth again at) entering
+  pub entry-works : Works own stack m cells l (entryOf own (m .numbers) (m .row) row c from upto depth again at) entering
   unfolding entryOf
   entry-works = by (fitsIn own (m .numbers) a (iterForm c)) refl
     where
       by : (b : Bool) → fitsIn own (m .numbers) a (iterForm c) ≡ b
-          → Works own m cells l (if b then
+          → Works own stack m cells l (if b then
               (if leb from upto then Moves (Enters a v row depth from upto) at else leaveOf (wayOut own (m .row) row again) a v depth at) else Not Stuck at)
               entering
       by true e = works-same (goes e (leb from upto)) (ap (λ (o : Out State). next o after)
-          (sym (set-to own around cells a iter (drop at l) (λ q. fits .bools) (ap (fitsIn own (m .numbers) a) iter-form ∙ e))))
+          (sym (set-to own stack around cells a iter (drop at l) (λ q. fits .bools) (ap (fitsIn own (m .numbers) a) iter-form ∙ e))))
       by false e = works-stuck (ap (λ (o : Out State). next o after)
-          (sym (set-off own around cells a iter (drop at l) (λ q. fits .bools) (ap (fitsIn own (m .numbers) a) iter-form ∙ e))))
+          (sym (set-off own stack around cells a iter (drop at l) (λ q. fits .bools) (ap (fitsIn own (m .numbers) a) iter-form ∙ e))))
 
 -- with no choice taken, it is the loop of a row 38
-pub entry-loops : (own : List ℕ) (m : Machine) (cells l : List ℕ) (row x y depth : ℕ) (again : Bool) (at : ℕ)
+pub entry-loops : (own stack : List ℕ) (m : Machine) (cells l : List ℕ) (row x y depth : ℕ) (again : Bool) (at : ℕ)
     → LoopFits own (m .numbers) (m .row) row depth → length (m .«loop_rows») ≡ 8 → length (m .starts) ≡ 8 → length (m .ends) ≡ 8
-    → Works own m cells l (entryOf own (m .numbers) (m .row) row false x y depth again at)
-        (loopAt (placesOf own) (ownTable own) (outer own m cells depth) row loop x y (outBy again (m .row) (ownTable own) row) (drop at l))
-entry-loops own m cells l row x y depth again at fits hr hs he = entry-works own m cells l row false x y depth again at fits hr hs he
+    → Works own stack m cells l (entryOf own (m .numbers) (m .row) row false x y depth again at)
+        (loopAt (placesOf own) (ownTable own) (outer own stack m cells depth) row loop x y (outBy again (m .row) (ownTable own) row) (drop at l))
+entry-loops own stack m cells l row x y depth again at fits hr hs he = entry-works own stack m cells l row false x y depth again at fits hr hs he
 
 -- ---- the loop of a row: z is what it came to
 module _ (own ns l : List ℕ) (here row x y depth : ℕ) (again : Bool) (at : ℕ) (fits : LoopFits own ns here row depth) where
@@ -250,8 +232,8 @@ module _ (own ns l : List ℕ) (here row x y depth : ℕ) (again : Bool) (at : �
   pub loop-plain : {c : Bool} {z : Worked} → c ≡ false → z ≡ entryOf own ns here row false x y depth again at
       → LoopWorks own ns l here row c x y depth again at z
   loop-plain ec e = rw ec (record {
-    loops = λ n count bs rows ss es fs ls hs cells hr hs′ he.
-        works-by (entry-loops own (columns here ns bs n rows ss es count fs ls hs) cells l row x y depth again at fits hr hs′ he) e;
+    loops = λ n count stack bs rows ss es fs ls hs cells hr hs′ he.
+        works-by (entry-loops own stack (columns here ns bs n rows ss es count fs ls hs) cells l row x y depth again at fits hr hs′ he) e;
   })
 
   -- p is the choice in the class of the start, q the one in the class of the end
@@ -267,8 +249,8 @@ module _ (own ns l : List ℕ) (here row x y depth : ℕ) (again : Bool) (at : �
 
     pub loop-first : {z : Worked} → OneOf (0 ∷ 2 ∷ 3 ∷ []) (tagOf answer p) → z ≡ lostOf p → LoopWorks own ns l here row c x y depth again at z
     loop-first h e = rw ec (record {
-      loops = λ n count bs rows ss es fs ls hs cells hr hs′ he.
-          row-lost uint p (onStart (outer own (columns here ns bs n rows ss es count fs ls hs) cells depth)) first-from h e;
+      loops = λ n count stack bs rows ss es fs ls hs cells hr hs′ he.
+          row-lost uint p (onStart (outer own stack (columns here ns bs n rows ss es count fs ls hs) cells depth)) first-from h e;
     })
 
     module _ {v nx : ℕ} (ep : p ≡ AUint v nx) {j : ℕ} (ej : j ≡ class ps y) (q : Answer)
@@ -278,46 +260,46 @@ module _ (own ns l : List ℕ) (here row x y depth : ℕ) (again : Bool) (at : �
 
       pub loop-second : {z : Worked} → OneOf (0 ∷ 2 ∷ 3 ∷ []) (tagOf answer q) → z ≡ lostOf q → LoopWorks own ns l here row c x y depth again at z
       loop-second h e = rw ec (record {
-        loops = λ n count bs rows ss es fs ls hs cells hr hs′ he.
-            let s = outer own (columns here ns bs n rows ss es count fs ls hs) cells depth in
+        loops = λ n count stack bs rows ss es fs ls hs cells hr hs′ he.
+            let s = outer own stack (columns here ns bs n rows ss es count fs ls hs) cells depth in
             row-uint p (onStart s) first-from ep (row-lost uint q (onEnd s v) second-from h e);
       })
 
       pub loop-chosen : {z : Worked} {w last : ℕ} → q ≡ AUint w last → z ≡ entryOf own ns here row true v w depth again last
           → LoopWorks own ns l here row c x y depth again at z
       loop-chosen {w = w} {last} eq e = rw ec (record {
-        loops = λ n count bs rows ss es fs ls hs cells hr hs′ he.
+        loops = λ n count stack bs rows ss es fs ls hs cells hr hs′ he.
             let m = columns here ns bs n rows ss es count fs ls hs in
-            let s = outer own m cells depth in
+            let s = outer own stack m cells depth in
             row-uint p (onStart s) first-from ep (row-uint q (onEnd s v) second-from eq
-            (works-by (entry-works own m cells l row true v w depth again last fits hr hs′ he) e));
+            (works-by (entry-works own stack m cells l row true v w depth again last fits hr hs′ he) e));
       })
 
 -- ---- 38 and 42: x and y are what the operands gave
-module _ (own l : List ℕ) (m : Machine) (cells : List ℕ) (class : Bool) (a b c at : ℕ) where
+module _ (own stack l : List ℕ) (m : Machine) (cells : List ℕ) (class : Bool) (a b c at : ℕ) where
   abbrev onBoth : Bool → ℕ → ℕ → Work Move
-  onBoth d v w = loopAt (placesOf own) (ownTable own) (ownState own m cells) (m .row) (loopRow d) v w (pastEnd (ownTable own) (m .row))
+  onBoth d v w = loopAt (placesOf own) (ownTable own) (ownState own stack m cells) (m .row) (loopRow d) v w (pastEnd (ownTable own) (m .row))
 
   abbrev onFirst : Bool → ℕ → Work Move
   onFirst d v cs = next (operand (lends own m cells) uint 1024 c cs) (onBoth d v)
 
   by-open : (d : Bool) → next (operand (lends own m cells) uint 1024 b (drop at l)) (onFirst d)
-      ≡ rowRule (placesOf own) (ownTable own) (ownState own m cells) (m .row) (loopRow d) a b c (drop at l)
+      ≡ rowRule (placesOf own) (ownTable own) (ownState own stack m cells) (m .row) (loopRow d) a b c (drop at l)
   unfolding rowRule operand
   by-open true = refl
   by-open false = refl
 
   module _ (x : Answer) (px : Answers uint l x (operand (lends own m cells) uint 1024 b (drop at l))) where
-    pub open-first : {z : Worked} → OneOf (0 ∷ 2 ∷ 3 ∷ []) (tagOf answer x) → z ≡ lostOf x → RowWorks own m cells l (loopRow class) a b c (drop at l) z
+    pub open-first : {z : Worked} → OneOf (0 ∷ 2 ∷ 3 ∷ []) (tagOf answer x) → z ≡ lostOf x → RowWorks own stack m cells l (loopRow class) a b c (drop at l) z
     open-first h e = works-same (row-lost uint x (onFirst class) px h e) (by-open class)
 
     module _ {v nx : ℕ} (ex : x ≡ AUint v nx) (y : Answer) (py : Answers uint l y (operand (lends own m cells) uint 1024 c (drop nx l))) where
       pub open-second : {z : Worked} → OneOf (0 ∷ 2 ∷ 3 ∷ []) (tagOf answer y) → z ≡ lostOf y
-          → RowWorks own m cells l (loopRow class) a b c (drop at l) z
+          → RowWorks own stack m cells l (loopRow class) a b c (drop at l) z
       open-second h e = works-same (row-uint x (onFirst class) px ex (row-lost uint y (onBoth class v) py h e)) (by-open class)
 
-      pub open-both : {z : Worked} {w last : ℕ} → y ≡ AUint w last → Works own m cells l z (onBoth class v w (drop last l))
-          → RowWorks own m cells l (loopRow class) a b c (drop at l) z
+      pub open-both : {z : Worked} {w last : ℕ} → y ≡ AUint w last → Works own stack m cells l z (onBoth class v w (drop last l))
+          → RowWorks own stack m cells l (loopRow class) a b c (drop at l) z
       open-both ey h = works-same (row-uint x (onFirst class) px ex (row-uint y (onBoth class v) py ey h)) (by-open class)
 
 -- ---- 39
@@ -333,18 +315,21 @@ isLoop loopEnd = false
 isLoop reducedStore = false
 isLoop reducedArray = false
 isLoop classLoop = true
+isLoop procedure = false
+isLoop returns = false
+isLoop call = false
 isLoop noRow = false
 
-loop-kinds : all 43 (λ k. not (isLoop (rowKind k)) || (eqb k 38 || eqb k 42)) ≡ true
+loop-kinds : all 46 (λ k. not (isLoop (rowKind k)) || (eqb k 38 || eqb k 42)) ≡ true
 unfolding all rowKind isLoop
 loop-kinds = refl
 
 not-loop : (k : ℕ) → k ≢ 38 → k ≢ 42 → isLoop (rowKind k) ≡ false
 unfolding rowKind isLoop
-not-loop k h38 h42 = elim (decLe 43 k) [
+not-loop k h38 h42 = elim (decLe 46 k) [
   | yes h ↦ ap isLoop (List·getD-eq-default rowKinds noRow {n = k} h)
   | no h ↦ go (isLoop (rowKind k))
-      (rw (ne-eqb k 38 h38, ne-eqb k 42 h42) at (all-at 43 (λ k. not (isLoop (rowKind k)) || (eqb k 38 || eqb k 42)) loop-kinds k (omega numbers)))
+      (rw (ne-eqb k 38 h38, ne-eqb k 42 h42) at (all-at 46 (λ k. not (isLoop (rowKind k)) || (eqb k 38 || eqb k 42)) loop-kinds k (omega numbers)))
 ]
   where
     go : (b : Bool) → (not b || false) ≡ true → b ≡ false
@@ -366,6 +351,9 @@ module _ (ps : List ℕ) (t : Table) (s : State) (r x y : ℕ) (out : Work ℕ) 
   loop-none reducedStore h = refl
   loop-none reducedArray h = refl
   loop-none classLoop h = absurd (false≢true (sym h))
+  loop-none procedure h = refl
+  loop-none returns h = refl
+  loop-none call h = refl
   loop-none noRow h = refl
 
 pub kind-38 : {k : ℕ} → k ≡ 38 → rowKind k ≡ loopRow false
@@ -387,15 +375,15 @@ row-there own r long e h = elim (decLe (length own) (4 * (34 + 1024 + r))) [
   | no before ↦ omega numbers
 ]
 
-module _ (own l : List ℕ) (m : Machine) (cells : List ℕ) (a b c at : ℕ) where
+module _ (own stack l : List ℕ) (m : Machine) (cells : List ℕ) (a b c at : ℕ) where
   abbrev repeating : ℕ → Out Move
-  repeating d = repeatLoop (placesOf own) (ownTable own) (ownState own m cells) (loopsOf d (m .«loop_rows») (m .starts) (m .ends)) (drop at l)
+  repeating d = repeatLoop (placesOf own) (ownTable own) (ownState own stack m cells) (loopsOf d (m .«loop_rows») (m .starts) (m .ends)) (drop at l)
 
-  by-repeat : repeating (m .«open») ≡ rowRule (placesOf own) (ownTable own) (ownState own m cells) (m .row) loopEnd a b c (drop at l)
+  by-repeat : repeating (m .«open») ≡ rowRule (placesOf own) (ownTable own) (ownState own stack m cells) (m .row) loopEnd a b c (drop at l)
   unfolding rowRule
   by-repeat = refl
 
-  pub repeat-none : m .«open» ≡ 0 → RowWorks own m cells l loopEnd a b c (drop at l) (Not Stuck at)
+  pub repeat-none : m .«open» ≡ 0 → RowWorks own stack m cells l loopEnd a b c (drop at l) (Not Stuck at)
   unfolding loopsOf tab listed
   repeat-none e = works-stuck (ap repeating (sym e) ∙ by-repeat)
 
@@ -404,34 +392,34 @@ module _ (own l : List ℕ) (m : Machine) (cells : List ℕ) (a b c at : ℕ) wh
     row = getD (m .«loop_rows») d 0
 
     abbrev onNext : Row → ℕ → Work Move
-    onNext k x = loopAt (placesOf own) (ownTable own) (outer own m cells d) row k x (getD (m .ends) d 0) (give (suc (m .row)))
+    onNext k x = loopAt (placesOf own) (ownTable own) (outer own stack m cells d) row k x (getD (m .ends) d 0) (give (suc (m .row)))
 
     abbrev kind : Row
     kind = rowKind (rowAt (ownTable own) row .kind)
 
     by-split : next (nextStart (getD (m .starts) d 0) (drop at l)) (onNext kind)
-        ≡ rowRule (placesOf own) (ownTable own) (ownState own m cells) (m .row) loopEnd a b c (drop at l)
-    by-split = sym (ap (λ (ls : List Loop). repeatLoop (placesOf own) (ownTable own) (ownState own m cells) ls (drop at l))
+        ≡ rowRule (placesOf own) (ownTable own) (ownState own stack m cells) (m .row) loopEnd a b c (drop at l)
+    by-split = sym (ap (λ (ls : List Loop). repeatLoop (placesOf own) (ownTable own) (ownState own stack m cells) ls (drop at l))
         (loops-split d (m .«loop_rows») (m .starts) (m .ends))) ∙ ap repeating (sym ed) ∙ by-repeat
 
     module _ (x : Answer) (px : Says uint at x (nextStart (getD (m .starts) d 0))) where
       added : Answers uint l x (nextStart (getD (m .starts) d 0) (drop at l))
       added = px .says l
 
-      pub repeat-ends : {z : Worked} → OneOf (0 ∷ 2 ∷ 3 ∷ []) (tagOf answer x) → z ≡ lostOf x → RowWorks own m cells l loopEnd a b c (drop at l) z
+      pub repeat-ends : {z : Worked} → OneOf (0 ∷ 2 ∷ 3 ∷ []) (tagOf answer x) → z ≡ lostOf x → RowWorks own stack m cells l loopEnd a b c (drop at l) z
       repeat-ends h e = works-same (row-lost uint x (onNext kind) added h e) by-split
 
       module _ {v nx : ℕ} (ex : x ≡ AUint v nx) {k : ℕ} (ek : k ≡ getD own (4 * (34 + 1024 + row) + 0) 0) where
         kind-is : rowKind k ≡ kind
         kind-is = ap rowKind (kind-read own row ek)
 
-        pub repeat-loop : (class : Bool) {z : Worked} → rowKind k ≡ loopRow class → Works own m cells l z (onNext (loopRow class) v (drop nx l))
-            → RowWorks own m cells l loopEnd a b c (drop at l) z
+        pub repeat-loop : (class : Bool) {z : Worked} → rowKind k ≡ loopRow class → Works own stack m cells l z (onNext (loopRow class) v (drop nx l))
+            → RowWorks own stack m cells l loopEnd a b c (drop at l) z
         repeat-loop class e h =
             works-same (row-uint x (onNext kind) added ex (works-same h (ap (λ (u : Row). onNext u v (drop nx l)) (sym e ∙ kind-is)))) by-split
 
-        pub repeat-other : k ≢ 38 → k ≢ 42 → RowWorks own m cells l loopEnd a b c (drop at l) (Not Stuck at)
+        pub repeat-other : k ≢ 38 → k ≢ 42 → RowWorks own stack m cells l loopEnd a b c (drop at l) (Not Stuck at)
         repeat-other h38 h42 =
             works-same (row-uint x (onNext kind) added ex (works-stuck
-            (loop-none (placesOf own) (ownTable own) (outer own m cells d) row v (getD (m .ends) d 0) (give (suc (m .row))) (drop nx l) kind
+            (loop-none (placesOf own) (ownTable own) (outer own stack m cells d) row v (getD (m .ends) d 0) (give (suc (m .row))) (drop nx l) kind
             (ap isLoop (sym kind-is) ∙ not-loop k h38 h42)))) by-split

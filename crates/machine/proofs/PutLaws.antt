@@ -32,6 +32,7 @@ use Rattle.prepared.specs.declared.Form.{Form}
 use Rattle.prepared.specs.declared.Form.the-variants.{Bool as FBool, Uint as FUint, Class as FClass, Pointer as FPointer}
 use Rattle.prepared.specs.View.{byForm, varsBy}
 use Rattle.prepared.specs.Own.{placesOf, declsOf, ownForm, ownTable, ownVars}
+use Rattle.prepared.proofs.VarLaws.{vars-value, vars-number}
 use Rattle.evaluators.proofs.answers.Answer.{the-type as answer}
 use Rattle.evaluators.specs.declared.answers.Failure.{Failure}
 use Rattle.evaluators.specs.declared.answers.Failure.the-variants.{Stuck}
@@ -39,14 +40,14 @@ use Rattle.evaluators.specs.declared.answers.Answer.{Answer}
 use Rattle.evaluators.specs.declared.answers.Answer.the-variants.{Bool as ABool, Uint as AUint, Pointer as APointer, Not as NoValue}
 use Rattle.evaluators.specs.CodeAnswers.{failed, outOf, OfType, Answers, Lent, lent, operand}
 use Rattle.evaluators.proofs.AnswerLaws.{failed-next}
-use Rattle.evaluators.proofs.ViewLaws.{valueIn, var-in, var-out}
+use Rattle.evaluators.proofs.ViewLaws.{var-in, var-out}
 use Rattle.machine.specs.declared.Machine.{Machine}
 use Rattle.machine.specs.declared.Move.the-variants.{Goes, Puts}
 use Rattle.machine.specs.declared.End.the-variants.{AssertFalse, AssumeFalse}
 use Rattle.machine.specs.declared.Worked.{Worked}
 use Rattle.machine.specs.declared.Worked.the-variants.{Moves, Ends, Not}
 use Rattle.machine.specs.View.{ownState}
-use Rattle.machine.specs.CodeMoves.{withValue, passed, stepOf, cellsOf, moveOut, CanDo, Works, RowWorks, BoolsFit}
+use Rattle.machine.specs.CodeMoves.{withValue, passed, stateAfter, moveOut, CanDo, Works, RowWorks, BoolsFit}
 use Rattle.machine.specs.CodeRows.{lostOf, onBool, onUint, onPointer, heldForm, fitsIn, putOf, putBool, putUint, putPointer, testedOf}
 use Rattle.machine.specs.CodeRows.{iterForm}
 
@@ -85,22 +86,22 @@ othersOf uint = 0 ∷ 2 ∷ 3 ∷ []
 othersOf pointer = 0 ∷ 1 ∷ 3 ∷ []
 
 -- ---- what a row comes to
-module _ {own : List ℕ} {m : Machine} {cells l : List ℕ} where
-  pub works-same : {r : Worked} {o p : Out Move} → Works own m cells l r o → o ≡ p → Works own m cells l r p
+module _ {own stack : List ℕ} {m : Machine} {cells l : List ℕ} where
+  pub works-same : {r : Worked} {o p : Out Move} → Works own stack m cells l r o → o ≡ p → Works own stack m cells l r p
   works-same h e = record { said = h .said ∙ e; can = h .can }
 
-  pub works-stuck : {at : ℕ} {o : Out Move} → stuck ≡ o → Works own m cells l (Not Stuck at) o
+  pub works-stuck : {at : ℕ} {o : Out Move} → stuck ≡ o → Works own stack m cells l (Not Stuck at) o
   unfolding moveOut CanDo failed
   works-stuck e = record { said = e; can = tt }
 
-  lost-not : (w : Ty) (why : Failure) (at : ℕ) {o : Out (Of w)} (j : Of w → Work Move) → Answers w l (NoValue why at) o
-      → Works own m cells l (Not why at) (next o j)
+  pub lost-not : (w : Ty) (why : Failure) (at : ℕ) {o : Out (Of w)} (j : Of w → Work Move) → Answers w l (NoValue why at) o
+      → Works own stack m cells l (Not why at) (next o j)
   unfolding moveOut CanDo outOf
   lost-not w why at j p = record { said = failed-next l at why j ∙ ap (λ (o : Out (Of w)). next o j) (p .said); can = tt }
 
   -- x is what the operand gave, o what it gives by definition, and j how the row goes on by definition
   pub lost-works : (w : Ty) (x : Answer) {o : Out (Of w)} (j : Of w → Work Move) → Answers w l x o → OneOf (othersOf w) (tagOf answer x)
-      → Works own m cells l (lostOf x) (next o j)
+      → Works own stack m cells l (lostOf x) (next o j)
   unfolding OfType
   lost-works w (NoValue why at) j p h = lost-not w why at j p
   lost-works bool (ABool b at) j p h = absurd (miss (othersOf bool) 0 tt h)
@@ -115,7 +116,7 @@ module _ {own : List ℕ} {m : Machine} {cells l : List ℕ} where
 
   -- ... and k how the code goes on
   pub works-bool : (x : Answer) {o : Out Bool} (k : Bool → ℕ → Worked) (j : Bool → Work Move) → Answers bool l x o
-      → ((b : Bool) (at : ℕ) → Works own m cells l (k b at) (j b (drop at l))) → Works own m cells l (onBool k x) (next o j)
+      → ((b : Bool) (at : ℕ) → Works own stack m cells l (k b at) (j b (drop at l))) → Works own stack m cells l (onBool k x) (next o j)
   unfolding outOf OfType onBool
   works-bool (ABool b at) k j p h = works-same (h b at) (ap (λ (o : Out Bool). next o j) (p .said))
   works-bool (AUint v at) k j p h = absurd (p .typed)
@@ -123,7 +124,7 @@ module _ {own : List ℕ} {m : Machine} {cells l : List ℕ} where
   works-bool (NoValue why at) k j p h = lost-not bool why at j p
 
   pub works-uint : (x : Answer) {o : Out ℕ} (k : ℕ → ℕ → Worked) (j : ℕ → Work Move) → Answers uint l x o
-      → ((v at : ℕ) → Works own m cells l (k v at) (j v (drop at l))) → Works own m cells l (onUint k x) (next o j)
+      → ((v at : ℕ) → Works own stack m cells l (k v at) (j v (drop at l))) → Works own stack m cells l (onUint k x) (next o j)
   unfolding outOf OfType onUint
   works-uint (ABool b at) k j p h = absurd (p .typed)
   works-uint (AUint v at) k j p h = works-same (h v at) (ap (λ (o : Out ℕ). next o j) (p .said))
@@ -131,7 +132,7 @@ module _ {own : List ℕ} {m : Machine} {cells l : List ℕ} where
   works-uint (NoValue why at) k j p h = lost-not uint why at j p
 
   pub works-pointer : (x : Answer) {o : Out Ptr} (k : ℕ → ℕ → ℕ → Worked) (j : Ptr → Work Move) → Answers pointer l x o
-      → ((r v at : ℕ) → Works own m cells l (k r v at) (j (ptr r v) (drop at l))) → Works own m cells l (onPointer k x) (next o j)
+      → ((r v at : ℕ) → Works own stack m cells l (k r v at) (j (ptr r v) (drop at l))) → Works own stack m cells l (onPointer k x) (next o j)
   unfolding outOf OfType onPointer
   works-pointer (ABool b at) k j p h = absurd (p .typed)
   works-pointer (AUint v at) k j p h = absurd (p .typed)
@@ -189,40 +190,7 @@ held-class FUint x e = absurd (omega arith)
 held-class FClass x e = refl
 held-class FPointer x e = absurd (omega arith)
 
--- ---- the variables with one of them replaced
-pub set-tab : {A : Type 0} (d : A) (n a : ℕ) (v : A) (old new : ℕ → A) → a < n → new a ≡ v → ((i : ℕ) → i ≢ a → new i ≡ old i)
-    → tab n new ≡ set (tab n old) a v
-set-tab d n a v old new h there other = ext-getD d (tab n new) (set (tab n old) a v) same-long at
-  where
-    same-long : length (tab n new) ≡ length (set (tab n old) a v)
-    same-long = length-tab n new ∙ sym (length-set (tab n old) a v ∙ length-tab n old)
-
-    at : (i : ℕ) → i < length (tab n new) → getD (tab n new) i d ≡ getD (set (tab n old) a v) i d
-    at i l =
-        let k : i < n = rw (length-tab n new) at l in
-        at-tab n new d i k ∙ elim (ℕ-discrete i a) [
-          | yes e ↦ rw e (there ∙ sym (getD-set-same (tab n old) a v d (rw (length-tab n old) h)))
-          | no e ↦ other i e ∙ sym (getD-set-other (tab n old) a i v d e ∙ at-tab n old d i k)
-        ]
-
-module _ (own ns bs : List ℕ) (a : ℕ) (v : Value) (h : a < declsOf own) where
-  vars-set : (ns′ bs′ : List ℕ) → valueIn own ns′ bs′ a ≡ v → ((i : ℕ) → i ≢ a → valueIn own ns′ bs′ i ≡ valueIn own ns bs i)
-      → ownVars own ns′ bs′ ≡ set (ownVars own ns bs) a v
-  unfolding varsBy
-  vars-set ns′ bs′ there other = set-tab (Uint 0) (declsOf own) a v (valueIn own ns bs) (valueIn own ns′ bs′) h there other
-
-  -- with its number and its base
-  pub vars-value : (x y : ℕ) → a < length ns → a < length bs → byForm (ownForm own a) x y ≡ v
-      → ownVars own (set ns a x) (set bs a y) ≡ set (ownVars own ns bs) a v
-  vars-value x y hn hb e =
-      vars-set (set ns a x) (set bs a y) (rw (getD-set-same ns a x 0 hn, getD-set-same bs a y 0 hb) e)
-      (λ i ne. rw (getD-set-other ns a i x 0 ne, getD-set-other bs a i y 0 ne))
-
-  -- with its number alone
-  pub vars-number : (x : ℕ) → a < length ns → byForm (ownForm own a) x (getD bs a 0) ≡ v → ownVars own (set ns a x) bs ≡ set (ownVars own ns bs) a v
-  vars-number x hn e = vars-set (set ns a x) bs (rw (getD-set-same ns a x 0 hn) e) (λ i ne. rw (getD-set-other ns a i x 0 ne))
-
--- an iterator, which keeps its base
+-- ---- an iterator, which keeps its base
 pub vars-iterator : (own ns bs : List ℕ) (a x : ℕ) (c : Bool) → fitsIn own ns a (iterForm c) ≡ true → a < length ns
     → ownVars own (set ns a x) bs ≡ set (ownVars own ns bs) a (if c then Class x else Uint x)
 vars-iterator own ns bs a x true e h =
@@ -259,22 +227,22 @@ same-form FPointer x y (Uint k) small = refl
 same-form FPointer x y (Class k) small = refl
 same-form FPointer x y (Pointer r p) small = refl
 
-module _ (own : List ℕ) (m : Machine) (cells : List ℕ) (a : ℕ) (v : Value) (cs : List ℕ) (bools : formOf v ≡ 2 → BoolsFit own (m .numbers)) where
-  set-is : setVar (ownState own m cells) a v cs
-      ≡ (if fitsIn own (m .numbers) a (formOf v) then gives (withVar (ownState own m cells) a v) cs else stuck)
+module _ (own stack : List ℕ) (m : Machine) (cells : List ℕ) (a : ℕ) (v : Value) (cs : List ℕ) (bools : formOf v ≡ 2 → BoolsFit own (m .numbers)) where
+  set-is : setVar (ownState own stack m cells) a v cs
+      ≡ (if fitsIn own (m .numbers) a (formOf v) then gives (withVar (ownState own stack m cells) a v) cs else stuck)
   unfolding fitsIn
   set-is = go (ltb a (declsOf own)) refl
     where
       held : ℕ
       held = heldForm (ownForm own a) (getD (m .numbers) a 0)
 
-      choice : (b : Bool) → (if_then_else_ {A = Work State} b (give (withVar (ownState own m cells) a v)) (λ cs. stuck)) cs
-          ≡ (if b then gives (withVar (ownState own m cells) a v) cs else stuck)
+      choice : (b : Bool) → (if_then_else_ {A = Work State} b (give (withVar (ownState own stack m cells) a v)) (λ cs. stuck)) cs
+          ≡ (if b then gives (withVar (ownState own stack m cells) a v) cs else stuck)
       choice true = refl
       choice false = refl
 
       go : (b : Bool) → ltb a (declsOf own) ≡ b
-          → setVar (ownState own m cells) a v cs ≡ (if b && eqb held (formOf v) then gives (withVar (ownState own m cells) a v) cs else stuck)
+          → setVar (ownState own stack m cells) a v cs ≡ (if b && eqb held (formOf v) then gives (withVar (ownState own stack m cells) a v) cs else stuck)
       go true u =
           let below : a < declsOf own = ltb-true a (declsOf own) u in
           rw (
@@ -283,19 +251,19 @@ module _ (own : List ℕ) (m : Machine) (cells : List ℕ) (a : ℕ) (v : Value)
           ) (choice (eqb held (formOf v)))
       go false u = rw (var-out own (m .numbers) (m .bases) a (ltb-false a (declsOf own) u) cs)
 
-  pub set-to : fitsIn own (m .numbers) a (formOf v) ≡ true → setVar (ownState own m cells) a v cs ≡ gives (withVar (ownState own m cells) a v) cs
+  pub set-to : fitsIn own (m .numbers) a (formOf v) ≡ true → setVar (ownState own stack m cells) a v cs ≡ gives (withVar (ownState own stack m cells) a v) cs
   set-to e = set-is ∙ rw e
 
-  pub set-off : fitsIn own (m .numbers) a (formOf v) ≡ false → setVar (ownState own m cells) a v cs ≡ stuck
+  pub set-off : fitsIn own (m .numbers) a (formOf v) ≡ false → setVar (ownState own stack m cells) a v cs ≡ stuck
   set-off e = set-is ∙ rw e
 
 -- ---- the record as it goes on
-module _ (own : List ℕ) (m : Machine) (cells : List ℕ) where
-  pub state-passed : ownState own (passed m) cells ≡ past (ownState own m cells)
+module _ (own stack : List ℕ) (m : Machine) (cells : List ℕ) where
+  pub state-passed : ownState own stack (passed m) cells ≡ past (ownState own stack m cells)
   state-passed = rw add-one
 
   pub state-value : (a x base : ℕ) (v : Value) → a < declsOf own → a < length (m .numbers) → a < length (m .bases) → byForm (ownForm own a) x base ≡ v
-      → ownState own (withValue m a x base) cells ≡ past (withVar (ownState own m cells) a v)
+      → ownState own stack (withValue m a x base) cells ≡ past (withVar (ownState own stack m cells) a v)
   state-value a x base v h hn hb e = rw (add-one, vars-value own (m .numbers) (m .bases) a v h x base hn hb e)
 
 -- what a row's operands are worked out from
@@ -316,30 +284,30 @@ pub type-pointer : {k : ℕ} → k ≢ 1 → k ≢ 2 → typeOf k ≡ pointer
 unfolding typeOf
 type-pointer {k} n u = rw (ne-eqb k 1 n, ne-eqb k 2 u)
 
-module _ (own : List ℕ) (m : Machine) (cells l : List ℕ) (few : declsOf own ≤ 32) (long : length (m .numbers) ≡ 32) (wide : length (m .bases) ≡ 32)
+module _ (own stack : List ℕ) (m : Machine) (cells l : List ℕ) (few : declsOf own ≤ 32) (long : length (m .numbers) ≡ 32) (wide : length (m .bases) ≡ 32)
     (a b c : ℕ) (cs : List ℕ) (x : Answer) where
   -- variable a gets v, and the row goes on
   abbrev settled : Value → Work Move
-  settled v cs = next (setVar (ownState own m cells) a v cs) (λ s′. give (to (past s′)))
+  settled v cs = next (setVar (ownState own stack m cells) a v cs) (λ s′. give (to (past s′)))
 
   put-works : (v : Value) (n base at : ℕ) → (fitsIn own (m .numbers) a (formOf v) ≡ true → byForm (ownForm own a) n base ≡ v)
-      → (formOf v ≡ 2 → BoolsFit own (m .numbers)) → Works own m cells l (putOf own (m .numbers) a (formOf v) n base at) (settled v (drop at l))
-  unfolding putOf moveOut CanDo stepOf cellsOf
+      → (formOf v ≡ 2 → BoolsFit own (m .numbers)) → Works own stack m cells l (putOf own (m .numbers) a (formOf v) n base at) (settled v (drop at l))
+  unfolding putOf moveOut CanDo stateAfter
   put-works v n base at is bools = go (fitsIn own (m .numbers) a (formOf v)) refl
     where
       go : (b : Bool) → fitsIn own (m .numbers) a (formOf v) ≡ b
-          → Works own m cells l (if b then Moves (Puts a n base) at else Not Stuck at) (settled v (drop at l))
+          → Works own stack m cells l (if b then Moves (Puts a n base) at else Not Stuck at) (settled v (drop at l))
       go true e =
           let below : a < declsOf own = fits-both own (m .numbers) a (formOf v) e .0 in
           record {
-            said = ap (λ (s : State). gives (to s) (drop at l)) (state-value own m cells a n base v below (omega arith) (omega arith) (is e))
-                ∙ sym (ap (λ (o : Out State). next o (λ s′. give (to (past s′)))) (set-to own m cells a v (drop at l) bools e));
+            said = ap (λ (s : State). gives (to s) (drop at l)) (state-value own stack m cells a n base v below (omega arith) (omega arith) (is e))
+                ∙ sym (ap (λ (o : Out State). next o (λ s′. give (to (past s′)))) (set-to own stack m cells a v (drop at l) bools e));
             can = fits-below own (m .numbers) a (formOf v) few e;
           }
-      go false e = works-stuck (sym (ap (λ (o : Out State). next o (λ s′. give (to (past s′)))) (set-off own m cells a v (drop at l) bools e)))
+      go false e = works-stuck (sym (ap (λ (o : Out State). next o (λ s′. give (to (past s′)))) (set-off own stack m cells a v (drop at l) bools e)))
 
   abbrev ruled : Out Move
-  ruled = rowRule (placesOf own) (ownTable own) (ownState own m cells) (m .row) assign a b c cs
+  ruled = rowRule (placesOf own) (ownTable own) (ownState own stack m cells) (m .row) assign a b c cs
 
   by-type : (w : Ty) → typeAt (ownTable own) a ≡ w → next (operand (lends own m cells) w 1024 b cs) (λ y. settled (value w y)) ≡ ruled
   unfolding rowRule operand
@@ -349,51 +317,51 @@ module _ (own : List ℕ) (m : Machine) (cells l : List ℕ) (few : declsOf own 
   held-by k e = fits-both own (m .numbers) a k e .1
 
   pub puts-bool : typeAt (ownTable own) a ≡ bool → Answers bool l x (operand (lends own m cells) bool 1024 b cs)
-      → RowWorks own m cells l assign a b c cs (putBool own (m .numbers) a x)
+      → RowWorks own stack m cells l assign a b c cs (putBool own (m .numbers) a x)
   puts-bool e p = works-same (works-bool x _ (λ y. settled (Truth y)) p each) (by-type bool e)
     where
       truth : (y : Bool) → byForm FBool (if y then 1 else 0) 0 ≡ Truth y
       truth true = refl
       truth false = refl
 
-      each : (y : Bool) (at : ℕ) → Works own m cells l (putOf own (m .numbers) a 1 (if y then 1 else 0) 0 at) (settled (Truth y) (drop at l))
+      each : (y : Bool) (at : ℕ) → Works own stack m cells l (putOf own (m .numbers) a 1 (if y then 1 else 0) 0 at) (settled (Truth y) (drop at l))
       each y at = put-works (Truth y) (if y then 1 else 0) 0 at
           (λ q. rw (held-bool (ownForm own a) (getD (m .numbers) a 0) (held-by 1 q)) (truth y)) (λ q. absurd (omega arith))
 
   pub puts-uint : BoolsFit own (m .numbers) → typeAt (ownTable own) a ≡ uint → Answers uint l x (operand (lends own m cells) uint 1024 b cs)
-      → RowWorks own m cells l assign a b c cs (putUint own (m .numbers) a x)
+      → RowWorks own stack m cells l assign a b c cs (putUint own (m .numbers) a x)
   puts-uint bools e p = works-same (works-uint x _ (λ y. settled (Uint y)) p each) (by-type uint e)
     where
-      each : (y at : ℕ) → Works own m cells l (putOf own (m .numbers) a 2 y 0 at) (settled (Uint y) (drop at l))
+      each : (y at : ℕ) → Works own stack m cells l (putOf own (m .numbers) a 2 y 0 at) (settled (Uint y) (drop at l))
       each y at = put-works (Uint y) y 0 at (λ q. rw (held-uint (ownForm own a) (getD (m .numbers) a 0) (held-by 2 q))) (λ q. bools)
 
   pub puts-pointer : typeAt (ownTable own) a ≡ pointer → Answers pointer l x (operand (lends own m cells) pointer 1024 b cs)
-      → RowWorks own m cells l assign a b c cs (putPointer own (m .numbers) a x)
+      → RowWorks own stack m cells l assign a b c cs (putPointer own (m .numbers) a x)
   puts-pointer e p = works-same (works-pointer x _ (λ y. settled (Pointer (y .array) (y .place))) p each) (by-type pointer e)
     where
-      each : (r y at : ℕ) → Works own m cells l (putOf own (m .numbers) a 3 y r at) (settled (Pointer r y) (drop at l))
+      each : (r y at : ℕ) → Works own stack m cells l (putOf own (m .numbers) a 3 y r at) (settled (Pointer r y) (drop at l))
       each r y at = put-works (Pointer r y) y r at (λ q. rw (held-pointer (ownForm own a) (getD (m .numbers) a 0) (held-by 3 q))) (λ q. absurd (omega arith))
 
 -- ---- 35 and 36
-module _ (own : List ℕ) (m : Machine) (cells l : List ℕ) (a b c : ℕ) (cs : List ℕ) (x : Answer)
+module _ (own stack : List ℕ) (m : Machine) (cells l : List ℕ) (a b c : ℕ) (cs : List ℕ) (x : Answer)
     (p : Answers bool l x (operand (lends own m cells) bool 1024 a cs)) where
   abbrev onTest : Bool → Bool → Work Move
-  onTest assuming y = give (if y then to (past (ownState own m cells)) else stop (if assuming then assumeFalse else assertFalse))
+  onTest assuming y = give (if y then to (past (ownState own stack m cells)) else stop (if assuming then assumeFalse else assertFalse))
 
-  test-works : (assuming : Bool) → Works own m cells l (testedOf assuming x) (next (operand (lends own m cells) bool 1024 a cs) (onTest assuming))
-  unfolding moveOut CanDo stepOf cellsOf
+  test-works : (assuming : Bool) → Works own stack m cells l (testedOf assuming x) (next (operand (lends own m cells) bool 1024 a cs) (onTest assuming))
+  unfolding moveOut CanDo stateAfter
   test-works assuming = works-bool x _ (onTest assuming) p (each assuming)
     where
       each : (assuming y : Bool) (at : ℕ)
-          → Works own m cells l (if y then Moves Goes at else Ends (if assuming then AssumeFalse else AssertFalse) at) (onTest assuming y (drop at l))
-      each assuming true at = record { said = ap (λ (s : State). gives (to s) (drop at l)) (state-passed own m cells); can = tt }
+          → Works own stack m cells l (if y then Moves Goes at else Ends (if assuming then AssumeFalse else AssertFalse) at) (onTest assuming y (drop at l))
+      each assuming true at = record { said = ap (λ (s : State). gives (to s) (drop at l)) (state-passed own stack m cells); can = tt }
       each true false at = record { said = refl; can = tt }
       each false false at = record { said = refl; can = tt }
 
-  pub asserts : RowWorks own m cells l assert a b c cs (testedOf false x)
+  pub asserts : RowWorks own stack m cells l assert a b c cs (testedOf false x)
   unfolding rowRule operand
   asserts = test-works false
 
-  pub assumes : RowWorks own m cells l assume a b c cs (testedOf true x)
+  pub assumes : RowWorks own stack m cells l assume a b c cs (testedOf true x)
   unfolding rowRule operand
   assumes = test-works true

@@ -12,6 +12,7 @@ use Rattle.prepared.specs.declared.Form.{Form}
 use Rattle.prepared.specs.declared.Form.the-variants.{Bool, Uint, Class, Pointer}
 use Rattle.prepared.specs.View.{kindOf, places, tableFor, formIn}
 use Rattle.machine.specs.declared.Machine.{Machine}
+use Rattle.machine.specs.declared.Record.{Record}
 use Rattle.machine.specs.CodeMoves.{columns}
 
 -- what a variable holds at first, by its form (rules 2.5, 3.6)
@@ -28,16 +29,23 @@ startNumber t f i = startByForm (places f) (formIn t f i)
 unfoldable pub freshVars : List ℕ → Frame → List Value
 freshVars t f = tab (f .counts .decls) (startOf (places f) (kindOf f) (tableFor t f))
 
--- a record with nothing in it
-abbrev pub blankRecord : Machine
-blankRecord =
+-- a machine with nothing in it
+abbrev pub blankMachine : Machine
+blankMachine =
     columns 0 (replicate 32 0) (replicate 32 0) 0 (replicate 8 0) (replicate 8 0) (replicate 8 0) 0 (replicate 16 0) (replicate 16 0) (replicate 16 0)
 
--- the record of a fresh run: a blank one with the numbers that its variables start with
+-- the machine of a fresh run: a blank one with the numbers that its variables start with
 abbrev pub freshNumber : List ℕ → Frame → ℕ → ℕ
 freshNumber t f i = if ltb i (f .counts .decls) then startNumber t f i else 0
 
-unfoldable pub freshRecord : List ℕ → Frame → Machine
-freshRecord t f =
+unfoldable pub freshMachine : List ℕ → Frame → Machine
+freshMachine t f =
     columns 0 (tab 32 (freshNumber t f)) (replicate 32 0) 0 (replicate 8 0) (replicate 8 0) (replicate 8 0) 0 (replicate 16 0) (replicate 16 0)
     (replicate 16 0)
+
+-- a record with nothing in it, and that of a fresh run: its stack has no caller (rules 2.5, 2.39)
+abbrev pub blankRecord : Record
+blankRecord = record { machine = blankMachine; stack = replicate 241 0 }
+
+abbrev pub freshRecord : List ℕ → Frame → Record
+freshRecord t f = record { machine = freshMachine t f; stack = replicate 241 0 }

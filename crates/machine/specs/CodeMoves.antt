@@ -1,32 +1,36 @@
--- What a row comes to, seen as the model's move, the record and the cells after a step, and what a row is lent.
+-- What a row comes to, seen as the model's move, the machine and the state after a step, and what a row is lent.
 use mathlib.Core.Path.{_≡_}
 use Prim.Native.Nat.{ℕ, suc, _+_, _<_, _≤_}
-use mathlib.Core.List.{List}
+use mathlib.Core.Logic.{_≢_}
+use mathlib.Core.List.{List, [], _∷_}
 use lib.ListN.{length, getD, drop, set}
 use lib.Dec.{ltb, eqb}
 use Rattle.lists.specs.If.{if_then_else_}
 use mathlib.Core.Bool.{Bool, true, false}
 use Rattle.model.specs.Class.{class}
-use Rattle.model.specs.Table.{Table, Row, nestAt}
-use Rattle.model.specs.Table.Row.{store, reducedStore, loop, classLoop}
+use Rattle.model.specs.Table.{Table, rowAt, Row, rowKind, nestAt, opening, localsAt}
+use Rattle.model.specs.Table.Row.{store, reducedStore, loop, classLoop, call}
 use Rattle.model.specs.Table.Nest.{opens}
 use Rattle.model.specs.Work.{Out, Work, _>>=_, give, fail, choose}
 use Rattle.model.specs.Work.Reason.{pastLength}
-use Rattle.model.specs.Work.Out.{gives}
-use Rattle.model.specs.State.{Value, Array, State}
+use Rattle.model.specs.Work.Out.{gives, stuck}
+use Rattle.model.specs.State.{Value, Array, Caller, caller, State, position}
 use Rattle.model.specs.State.Value.{Uint, Class}
 use Rattle.model.specs.Eval.{keeps, indexOf}
-use Rattle.model.specs.Step.{Move as ModelMove, cleared, past, withLoops, pastEnd, put, loopAt, rowRule, step}
+use Rattle.model.specs.Step.{Move as ModelMove, cleared, past, withVar, withLoops, withWork, numbersIn, handedOver, argument, pastEnd, put, loopAt, rowRule}
+use Rattle.model.specs.Step.{step}
 use Rattle.model.specs.Step.Move.{to, stop}
 use Rattle.prepared.specs.declared.Form.the-variants.{Bool as FBool}
 use Rattle.prepared.specs.Own.{ownWords, placesOf, declsOf, rowsOf, ownTable, ownForm}
 use Rattle.evaluators.specs.CodeAnswers.{failed}
 use Rattle.machine.specs.declared.Machine.{Machine}
 use Rattle.machine.specs.declared.Move.{Move}
-use Rattle.machine.specs.declared.Move.the-variants.{Goes, Puts, Writes, Lays, Enters, Leaves}
+use Rattle.machine.specs.declared.Move.the-variants.{Goes, Puts, Writes, Lays, Enters, Leaves, Calls, Returns}
 use Rattle.machine.specs.declared.Worked.{Worked}
 use Rattle.machine.specs.declared.Worked.the-variants.{Moves, Ends, Not}
-use Rattle.machine.specs.View.{endOf, loopsOf, ownState}
+use Rattle.calls.specs.Stack.{depthOf, loopsOf, callersOf}
+use Rattle.calls.specs.Turns.{Procedures, CanCall, CanReturn}
+use Rattle.machine.specs.View.{endOf, ownState}
 
 -- ---- the record by its columns
 abbrev pub columns : ℕ → List ℕ → List ℕ → ℕ → List ℕ → List ℕ → List ℕ → ℕ → List ℕ → List ℕ → List ℕ → Machine
@@ -67,55 +71,74 @@ abbrev pub exited : Machine → ℕ → ℕ → ℕ → ℕ → Machine
 exited m a x depth next =
     columns next (set (m .numbers) a x) (m .bases) depth (m .«loop_rows») (m .starts) (m .ends) (m .count) (m .firsts) (m .lengths) (m .shapes)
 
-unfoldable pub stepOf : Machine → Move → Machine
-stepOf m Goes = passed m
-stepOf m (Puts a x base) = withValue m a x base
-stepOf m (Writes i x) = passed m
-stepOf m (Lays a first len size reduced) = withLaid m a first len reduced
-stepOf m (Enters a x row depth from upto) = entered m a x row depth from upto
-stepOf m (Leaves a x depth next) = exited m a x depth next
+-- ... with a procedure begun, or the caller resumed
+abbrev pub begun : Machine → List ℕ → ℕ → Machine
+begun m numbers next =
+    columns next numbers (m .bases) 0 (m .«loop_rows») (m .starts) (m .ends) (m .count) (m .firsts) (m .lengths) (m .shapes)
 
--- ---- ... and the cells
-unfoldable pub cellsOf : List ℕ → Move → List ℕ
-cellsOf cells Goes = cells
-cellsOf cells (Puts a x base) = cells
-cellsOf cells (Writes i x) = set cells i x
-cellsOf cells (Lays a first len size reduced) = cleared first size cells
-cellsOf cells (Enters a x row depth from upto) = cells
-cellsOf cells (Leaves a x depth next) = cells
+abbrev pub resumed : Machine → List ℕ → List ℕ → List ℕ → List ℕ → ℕ → ℕ → Machine
+resumed m numbers rows starts ends next loops =
+    columns next numbers (m .bases) loops rows starts ends (m .count) (m .firsts) (m .lengths) (m .shapes)
+
+-- ---- a call and a return, as the model has them where it comes to an end
+abbrev pub calledBy : Table → State → ℕ → ℕ → State
+calledBy t s k x =
+    withWork s (position (suc (opening t k)) []) (caller (s .here) (numbersIn (s .vars) (localsAt t (s .here .row))) ∷ s .callers)
+    (handedOver (s .vars) (localsAt t (s .here .row)) (localsAt t (suc (opening t k))) (argument x))
+
+unfoldable pub returnedBy : Table → State → List Caller → ℕ → State
+returnedBy t s [] x = s
+returnedBy t s (c ∷ cs) x =
+    past (withVar (withWork s (c .here) cs
+        (handedOver (s .vars) (localsAt t (s .here .row)) (localsAt t (c .here .row)) (λ i. getD (c .locals) i 0)))
+    (rowAt t (c .here .row) .c) (Uint x))
+
+-- ---- the state after a step: by the machine, the stack and the cells that it makes
+unfoldable pub stateAfter : List ℕ → List ℕ → Machine → List ℕ → Move → State
+stateAfter own stack m cells Goes = ownState own stack (passed m) cells
+stateAfter own stack m cells (Puts a x base) = ownState own stack (withValue m a x base) cells
+stateAfter own stack m cells (Writes i x) = ownState own stack (passed m) (set cells i x)
+stateAfter own stack m cells (Lays a first len size reduced) = ownState own stack (withLaid m a first len reduced) (cleared first size cells)
+stateAfter own stack m cells (Enters a x row depth from upto) = ownState own stack (entered m a x row depth from upto) cells
+stateAfter own stack m cells (Leaves a x depth next) = ownState own stack (exited m a x depth next) cells
+stateAfter own stack m cells (Calls k x) = calledBy (ownTable own) (ownState own stack m cells) k x
+stateAfter own stack m cells (Returns x) = returnedBy (ownTable own) (ownState own stack m cells) (callersOf (ownTable own) stack) x
 
 -- ---- what a row came to, with a cursor into the list l
-unfoldable pub moveOut : List ℕ → Machine → List ℕ → List ℕ → Worked → Out ModelMove
-moveOut own m cells l (Moves x at) = gives (to (ownState own (stepOf m x) (cellsOf cells x))) (drop at l)
-moveOut own m cells l (Ends e at) = gives (stop (endOf e)) (drop at l)
-moveOut own m cells l (Not why at) = failed l at why
+unfoldable pub moveOut : List ℕ → List ℕ → Machine → List ℕ → List ℕ → Worked → Out ModelMove
+moveOut own stack m cells l (Moves x at) = gives (to (stateAfter own stack m cells x)) (drop at l)
+moveOut own stack m cells l (Ends e at) = gives (stop (endOf e)) (drop at l)
+moveOut own stack m cells l (Not why at) = failed l at why
 
--- ---- the bounds of a step, for a record with so many arrays and so many cells lent
-abbrev pub Can : ℕ → ℕ → Move → Type 0
-Can count room Goes = Unit {0}
-Can count room (Puts a x base) = a < 32
-Can count room (Writes i x) = i < room
-Can count room (Lays a first len size reduced) = (a < 32) × (count < 16) × (first + size ≤ room)
-Can count room (Enters a x row depth from upto) = (a < 32) × (row < 256) × (depth < 8)
-Can count room (Leaves a x depth next) = (a < 32) × (next ≤ 256)
+-- ---- the bounds of a step, with so many cells lent
+abbrev pub Can : List ℕ → List ℕ → Machine → ℕ → Move → Type 0
+Can own stack m room Goes = Unit {0}
+Can own stack m room (Puts a x base) = a < 32
+Can own stack m room (Writes i x) = i < room
+Can own stack m room (Lays a first len size reduced) = (a < 32) × (m .count < 16) × (first + size ≤ room)
+Can own stack m room (Enters a x row depth from upto) = (a < 32) × (row < 256) × (depth < 8)
+Can own stack m room (Leaves a x depth next) = (a < 32) × (next ≤ 256)
+Can own stack m room (Calls k x) = CanCall own stack (m .row) k
+Can own stack m room (Returns x) = CanReturn own stack (m .row)
 
-unfoldable pub CanDo : ℕ → ℕ → Worked → Type 0
-CanDo count room (Moves x at) = Can count room x
-CanDo count room (Ends e at) = Unit {0}
-CanDo count room (Not why at) = Unit {0}
+unfoldable pub CanDo : List ℕ → List ℕ → Machine → ℕ → Worked → Type 0
+CanDo own stack m room (Moves x at) = Can own stack m room x
+CanDo own stack m room (Ends e at) = Unit {0}
+CanDo own stack m room (Not why at) = Unit {0}
 
 -- ---- what a row comes to is o, and its step is within its bounds
-pub record Works (own : List ℕ) (m : Machine) (cells l : List ℕ) (r : Worked) (o : Out ModelMove) : Type 0 where
-  pub said : moveOut own m cells l r ≡ o
-  pub can : CanDo (m .count) (length cells) r
+pub record Works (own stack : List ℕ) (m : Machine) (cells l : List ℕ) (r : Worked) (o : Out ModelMove) : Type 0 where
+  pub said : moveOut own stack m cells l r ≡ o
+  pub can : CanDo own stack m (length cells) r
 
 -- ... of a row of the kind k at which the record stands, by its operands, under the choices cs
-abbrev pub RowWorks : List ℕ → Machine → List ℕ → List ℕ → Row → ℕ → ℕ → ℕ → List ℕ → Worked → Type 0
-RowWorks own m cells l k a b c cs r = Works own m cells l r (rowRule (placesOf own) (ownTable own) (ownState own m cells) (m .row) k a b c cs)
+abbrev pub RowWorks : List ℕ → List ℕ → Machine → List ℕ → List ℕ → Row → ℕ → ℕ → ℕ → List ℕ → Worked → Type 0
+RowWorks own stack m cells l k a b c cs r =
+    Works own stack m cells l r (rowRule (placesOf own) (ownTable own) (ownState own stack m cells) (m .row) k a b c cs)
 
 -- ... of the row where the record stands: the model's step, read as a move
-abbrev pub StepWorks : List ℕ → Machine → List ℕ → List ℕ → ℕ → Worked → Type 0
-StepWorks own m cells l at r = Works own m cells l r (step (placesOf own) (ownTable own) (ownState own m cells) (drop at l))
+abbrev pub StepWorks : List ℕ → List ℕ → Machine → List ℕ → List ℕ → ℕ → Worked → Type 0
+StepWorks own stack m cells l at r = Works own stack m cells l r (step (placesOf own) (ownTable own) (ownState own stack m cells) (drop at l))
 
 -- ---- what a row is lent: a table and a record within the bounds of the checks
 -- every bool of a record that a run keeps is 0 or 1 (rule 7.5)
@@ -139,12 +162,22 @@ pub record Within (own : List ℕ) (m : Machine) (cells : List ℕ) : Type 0 whe
   pub sized : Sized m
   pub decls : declsOf own ≤ 32
   pub rows : rowsOf own ≤ 256
-  pub row : m .row < rowsOf own
+  pub row : m .row ≤ rowsOf own
   pub count : m .count ≤ 16
   pub loops : m .«open» ≤ 8
-  pub inner : nestAt (ownTable own) (m .row) ≡ opens → m .«open» < 8
+  pub inner : m .row < rowsOf own → nestAt (ownTable own) (m .row) ≡ opens → m .«open» < 8
   pub room : length cells ≤ 4294967295
   pub bools : BoolsFit own (m .numbers)
+
+-- what a call or a return of the row where the record stands asks for: by 17, procedures and their locals; by 15, the callers; and a step of the
+-- model that comes to an end or goes on
+pub record Turns (own map stack : List ℕ) (m : Machine) (cells : List ℕ) : Type 0 where
+  pub procedures : Procedures own map
+  pub few : depthOf stack ≤ 8
+  pub numbers : rowKind (rowAt (ownTable own) (m .row) .kind) ≡ call → opening (ownTable own) (rowAt (ownTable own) (m .row) .a) < rowsOf own
+      → rowAt (ownTable own) (m .row) .a < 16
+  pub last : 1 ≤ depthOf stack → CanReturn own stack (m .row)
+  pub goes : (cs : List ℕ) → step (placesOf own) (ownTable own) (ownState own stack m cells) cs ≢ stuck
 
 -- ---- 34 and 40, with the operands worked out
 abbrev pub storeRow : Bool → Row
@@ -162,7 +195,7 @@ storeIn false ps s p x r = if ltb p (r .len) then put ps s r p x else fail pastL
 
 -- what a write comes to is o of the state, whatever the record and the cells, of which so many are lent
 pub record Stores (own l : List ℕ) (room : ℕ) (r : Worked) (o : State → Out ModelMove) : Type 0 where
-  pub stores : (m : Machine) (cells : List ℕ) → length cells ≡ room → Works own m cells l r (o (ownState own m cells))
+  pub stores : (stack : List ℕ) (m : Machine) (cells : List ℕ) → length cells ≡ room → Works own stack m cells l r (o (ownState own stack m cells))
 
 -- ---- 38, 42 and 39, with start and end worked out
 abbrev pub loopRow : Bool → Row
@@ -180,8 +213,8 @@ outBy true here t row = give (suc here)
 outBy false here t row = pastEnd t row
 
 -- the state with no more than the outermost loops open, so many
-abbrev pub outer : List ℕ → Machine → List ℕ → ℕ → State
-outer own m cells depth = withLoops (ownState own m cells) (loopsOf depth (m .«loop_rows») (m .starts) (m .ends))
+abbrev pub outer : List ℕ → List ℕ → Machine → List ℕ → ℕ → State
+outer own stack m cells depth = withLoops (ownState own stack m cells) (loopsOf depth (m .«loop_rows») (m .starts) (m .ends))
 
 -- what a loop asks for: a table within the bounds, a row where the record stands and one of a loop, room for one more loop, and bools
 pub record LoopFits (own ns : List ℕ) (h r d : ℕ) : Type 0 where
@@ -208,7 +241,7 @@ pub record RepeatFits (own ns rs ss es : List ℕ) (h n : ℕ) : Type 0 where
 
 -- what the loop of a row comes to is the model's, whatever the rest of the record
 pub record LoopWorks (own ns l : List ℕ) (here row : ℕ) (c : Bool) (x y depth : ℕ) (again : Bool) (at : ℕ) (r : Worked) : Type 0 where
-  pub loops : («open» count : ℕ) (bs rows starts ends fs ls hs cells : List ℕ) → length rows ≡ 8 → length starts ≡ 8 → length ends ≡ 8
-      → Works own (columns here ns bs «open» rows starts ends count fs ls hs) cells l r
-          (loopAt (placesOf own) (ownTable own) (outer own (columns here ns bs «open» rows starts ends count fs ls hs) cells depth) row (loopRow c) x y
+  pub loops : («open» count : ℕ) (stack bs rows starts ends fs ls hs cells : List ℕ) → length rows ≡ 8 → length starts ≡ 8 → length ends ≡ 8
+      → Works own stack (columns here ns bs «open» rows starts ends count fs ls hs) cells l r
+          (loopAt (placesOf own) (ownTable own) (outer own stack (columns here ns bs «open» rows starts ends count fs ls hs) cells depth) row (loopRow c) x y
           (outBy again here (ownTable own) row) (drop at l))

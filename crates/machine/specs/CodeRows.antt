@@ -19,8 +19,8 @@ use Rattle.evaluators.specs.declared.answers.Failure.the-variants.{Fails, Stuck
 use Rattle.evaluators.specs.declared.answers.Reason.the-variants.{WithoutArray, PastLength}
 use Rattle.evaluators.specs.declared.answers.Answer.{Answer}
 use Rattle.evaluators.specs.declared.answers.Answer.the-variants.{Bool as ABool, Uint as AUint, Pointer as APointer, Not as NoValue}
-use Rattle.machine.specs.declared.End.the-variants.{AssertFalse, AssumeFalse, WantOfCells}
-use Rattle.machine.specs.declared.Move.the-variants.{Goes, Puts, Writes, Lays, Enters, Leaves}
+use Rattle.machine.specs.declared.End.the-variants.{AssertFalse, AssumeFalse, WantOfCells, TooDeep}
+use Rattle.machine.specs.declared.Move.the-variants.{Goes, Puts, Writes, Lays, Enters, Leaves, Calls, Returns}
 use Rattle.machine.specs.declared.Worked.{Worked}
 use Rattle.machine.specs.declared.Worked.the-variants.{Moves, Ends, Not}
 
@@ -155,3 +155,10 @@ entryOf own ns here row c from upto depth again at =
     then Moves (Enters (rowAt (ownTable own) row .a) (iterNumber (placesOf own) c from) row depth from upto) at
     else leaveOf (wayOut own here row again) (rowAt (ownTable own) row .a) (iterNumber (placesOf own) c from) depth at)
     else Not Stuck at
+
+-- ---- 44 and 45
+unfoldable pub calledOf : ℕ → ℕ → Answer → Worked
+calledOf depth k x = onUint (λ v at. if leb 8 depth then Ends TooDeep at else Moves (Calls k v) at) x
+
+unfoldable pub returnedOf : Answer → Worked
+returnedOf x = onUint (λ v at. Moves (Returns v) at) x

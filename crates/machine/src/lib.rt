@@ -1,5 +1,6 @@
 // The machines: the record by value, what a row comes to, worked out from the record's columns, and the step that makes the change.
 pub mod arrays; // arrays.rt: rows 37 and 41
+pub mod turns; // turns.rt: rows 44 and 45
 pub mod conditions; // conditions.rt: rows 35 and 36
 mod fresh; // fresh.rt: a fresh record and a blank one
 pub mod loops; // loops.rt: rows 38, 42 and 39
@@ -8,10 +9,11 @@ pub mod steps; // steps.rt: the steps
 pub mod values; // values.rt: row 33
 pub mod writes; // writes.rt: rows 34 and 40
 
+use calls::STACK;
 use evaluators::answers::Failure;
 use evaluators::answers::Reason;
 
-// The ends of a run (rule 2.29), a failure with its reason; list full is the choice writer's alone.
+// The ends of a run (rule 2.29), a failure with its reason; list full is the choice writer's alone, too deep that of a call (rule 2.41).
 pub enum End {
     Done,
     AssertFalse,
@@ -22,11 +24,12 @@ pub enum End {
     ChoiceNotAllowed,
     NoChoiceLeft,
     ListFull,
+    TooDeep,
 }
 
-// The record: the row; the variables, each with a number and, for a pointer, its array counted from 1 (0 for none); the open loops, outermost
-// first, each with its row, start and end; the arrays, each with its first cell, its true length and its shape, 1 for a reduced one and any
-// other for a plain one. What stands past those in use is no part of it (rule 7.13).
+// What a row works on: the row; the variables, each with a number and, for a pointer, its array counted from 1 (0 for none); the open loops,
+// outermost first, each with its row, start and end; the arrays, each with its first cell, its true length and its shape, 1 for a reduced one
+// and any other for a plain one. What stands past those in use is no part of it (rule 7.13).
 // A number stands before each group of columns: so a change to one column copies that column and no other.
 pub struct Machine {
     pub row: u32,
@@ -42,6 +45,13 @@ pub struct Machine {
     pub shapes: [u8; Machine::ARRAYS as usize],
 }
 
+// The record: the machine, and the stack of its callers, 30 words for each of eight, the one in main first: its row, how many loops are open,
+// four locals, and the rows, starts and ends of eight loops. The last word is how many callers there are (rule 2.39).
+pub struct Record {
+    pub machine: Machine,
+    pub stack: [u32; STACK],
+}
+
 impl Machine {
     // The most variables, open loops and arrays that a record has, and how many cells each machine has.
     pub const VARIABLES: usize = 32;
@@ -55,9 +65,15 @@ impl Machine {
     pub const REDUCED_CELLS: usize = 4128;
 }
 
+impl Record {
+    // The most callers that a record has (rule 2.41).
+    pub const CALLERS: u32 = 8;
+}
+
 // What a step changes: nothing but the row; variable a gets a number and a base; cell i gets a number; pointer a gets a new array (its first
 // cell, length, cells, and whether it is reduced); the loop of a row is entered (its iterator and the iterator's number, the row, how many
-// loops are open around it, start and end) or left (iterator and number, how many loops stay open, the row to go to).
+// loops are open around it, start and end) or left (iterator and number, how many loops stay open, the row to go to); a procedure is called
+// with a number, or a number is returned to the last caller.
 pub enum Move {
     Goes,
     Puts(usize, u32, u32),
@@ -65,6 +81,8 @@ pub enum Move {
     Lays(usize, u32, u32, u32, bool),
     Enters(usize, u32, u32, u32, u32, u32),
     Leaves(usize, u32, u32, u32),
+    Calls(u32, u32),
+    Returns(u32),
 }
 
 // What a row comes to: a change, or the run's end, each with the place of the next choice; or why there is neither. A row that ends the run

@@ -7,16 +7,15 @@ use evaluators::answers::Answer;
 use evaluators::answers::Failure;
 use evaluators::answers::choice_in;
 use evaluators::answers::next_start;
-use prepared::own::ROWS;
+use prepared::own::row_word;
 use prepared::places::class_in;
 use lists::Found;
-use lists::word_or_zero;
-use table::Counts;
+use kinds::Counts;
 use table::loops::matching_end;
 ghost use mathlib.Core.Path.{_≡_};
 ghost use mathlib.Core.List.{List};
-ghost use Prim.Native.Nat.{ℕ, _+_, _*_, _<_, _≤_};
-ghost use lib.ListN.{getD, drop};
+ghost use Prim.Native.Nat.{ℕ, _<_, _≤_};
+ghost use lib.ListN.{drop};
 ghost use Rattle.model.specs.Table.Row.{loopEnd};
 ghost use Rattle.prepared.specs.Own.{declsOf, rowsOf, placesOf};
 ghost use Rattle.machine.specs.CodeMoves.{columns, RowWorks, LoopFits, LoopWorks, RepeatFits};
@@ -39,14 +38,6 @@ fn iterator_number(own: &[u32; 5256], class: bool, from: u32) -> u32
         return class_in(own, from);
     }
     from
-}
-
-// Word i of a row: its kind or an operand.
-pub fn row_word(own: &[u32; 5256], row: u32, i: usize) -> u32
-    requires { ⌜ i ≤ 3 ⌝ }
-    ensures { λ r. ⌜ r ≡ getD (now (own .entry)) (4 * (34 + 1024 + row) + i) 0 ⌝ }
-{
-    word_or_zero(own, ROWS + 4 * row as usize + i)
 }
 
 // The row to go to where a loop is not entered: past the row `here` that repeats it, or past its end row.
@@ -149,7 +140,7 @@ pub fn repeated<'a>(
     at: usize,
 ) -> Worked
     requires { ⌜ RepeatFits (now own) (now ns) (now «loop_rows») (now starts) (now ends) here «open» ⌝ }
-    ensures { λ r. ⌜ ((a b c count : ℕ) (bs fs ls hs cells : List ℕ) → RowWorks (now (own .entry))
+    ensures { λ r. ⌜ ((a b c count : ℕ) (stack bs fs ls hs cells : List ℕ) → RowWorks (now (own .entry)) stack
         (columns here (now (ns .entry)) bs «open» (now («loop_rows» .entry)) (now (starts .entry)) (now (ends .entry)) count fs ls hs) cells
         (now (list .entry)) loopEnd a b c (drop at (now (list .entry))) r) ⌝ }
 {

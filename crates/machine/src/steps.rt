@@ -3,12 +3,17 @@
 // `step` has one caller, for the same reason. For the loops of our crates above, which see to what is required.
 use crate::Machine;
 use crate::Move;
+use calls::Stood;
+use calls::call;
+use calls::give_back;
 ghost use mathlib.Core.Path.{_≡_};
 ghost use Prim.Native.Nat.{_+_, _<_, _≤_};
 ghost use lib.ListN.{length, replicate};
 ghost use Rattle.lists.specs.If.{if_then_else_};
 ghost use Rattle.model.specs.Step.{cleared};
-ghost use Rattle.machine.specs.CodeMoves.{passed, withValue, withLaid, entered, exited, stepOf, cellsOf, Can};
+ghost use Rattle.calls.specs.Turns.{Procedures};
+ghost use Rattle.machine.specs.View.{ownState};
+ghost use Rattle.machine.specs.CodeMoves.{passed, withValue, withLaid, entered, exited, begun, resumed, stateAfter, Can};
 
 // An array's shape.
 fn shape_of(reduced: bool) -> u8
@@ -44,7 +49,7 @@ pub fn zero(cells: &mut [u32], from: u32, n: u32)
 impl Machine {
     // The step of a row that changes nothing in the record: it goes on.
     pub fn pass(mut self) -> Machine
-        requires { ⌜ self .row < 256 ⌝ }
+        requires { ⌜ self .row ≤ 256 ⌝ }
         ensures { λ r. ⌜ r ≡ passed self ⌝ }
     {
         self.row = self.row + 1;
@@ -53,7 +58,7 @@ impl Machine {
 
     // ... that gives variable a a number and a base.
     pub fn put(mut self, a: usize, number: u32, base: u32) -> Machine
-        requires { ⌜ (self .row < 256) × (a < 32) ⌝ }
+        requires { ⌜ (self .row ≤ 256) × (a < 32) ⌝ }
         ensures { λ r. ⌜ r ≡ withValue self a number base ⌝ }
     {
         let mut numbers = self.numbers;
@@ -68,7 +73,7 @@ impl Machine {
 
     // ... that lays a new array after the others, for pointer a.
     pub fn lay(mut self, a: usize, first: u32, len: u32, reduced: bool) -> Machine
-        requires { ⌜ (self .row < 256) × (a < 32) × (self .count < 16) ⌝ }
+        requires { ⌜ (self .row ≤ 256) × (a < 32) × (self .count < 16) ⌝ }
         ensures { λ r. ⌜ r ≡ withLaid self a first len reduced ⌝ }
     {
         let i = self.count as usize;
@@ -128,10 +133,34 @@ impl Machine {
         self
     }
 
-    // The step that a row comes to, with the cells lent beside the record.
-    pub fn step(mut self, cells: &mut [u32], change: Move) -> Machine
-        requires { ⌜ (self .row < 256) × Can (self .count) (length (now cells)) change ⌝ }
-        ensures { λ r. ⌜ (r ≡ stepOf self change) × (now (cells .exit) ≡ cellsOf (now (cells .entry)) change) ⌝ }
+    // A call: the procedure starts with these numbers, at its first row, with no loop open.
+    pub fn begin(mut self, numbers: [u32; 32], next: u32) -> Machine
+        ensures { λ r. ⌜ r ≡ begun self numbers next ⌝ }
+    {
+        self.numbers = numbers;
+        self.open = 0;
+        self.row = next;
+        self
+    }
+
+    // A return: the caller goes on with these numbers and its own loops.
+    pub fn resume(mut self, numbers: [u32; 32], rows: [u32; 8], starts: [u32; 8], ends: [u32; 8], back: Stood) -> Machine
+        ensures { λ r. ⌜ r ≡ resumed self numbers rows starts ends (back .row) (back .open) ⌝ }
+    {
+        self.numbers = numbers;
+        self.loop_rows = rows;
+        self.starts = starts;
+        self.ends = ends;
+        self.open = back.open;
+        self.row = back.row;
+        self
+    }
+
+    // The step that a row comes to, with the stack and the cells lent beside the machine.
+    pub fn step(mut self, own: &[u32; 5256], map: &[u32; 273], stack: &mut [u32; 241], cells: &mut [u32], change: Move) -> Machine
+        requires { ⌜ (self .row ≤ 256) × Procedures (now own) (now map) × Can (now own) (now stack) self (length (now cells)) change ⌝ }
+        ensures { λ r. ⌜ ownState (now (own .entry)) (now (stack .exit)) r (now (cells .exit))
+            ≡ stateAfter (now (own .entry)) (now (stack .entry)) self (now (cells .entry)) change ⌝ }
     {
         match change {
             Move::Goes => self.pass(),
@@ -146,6 +175,22 @@ impl Machine {
             }
             Move::Enters(a, number, row, depth, from, upto) => self.enter(a, number, row, depth, from, upto),
             Move::Leaves(a, number, depth, next) => self.leave(a, number, depth, next),
+            Move::Calls(k, x) => {
+                let mut numbers = self.numbers;
+                let rows = self.loop_rows;
+                let starts = self.starts;
+                let ends = self.ends;
+                let next = call(own, map, stack, &mut numbers, self.row, self.open, &rows, &starts, &ends, k, x);
+                self.begin(numbers, next)
+            }
+            Move::Returns(x) => {
+                let mut numbers = self.numbers;
+                let mut rows = self.loop_rows;
+                let mut starts = self.starts;
+                let mut ends = self.ends;
+                let back = give_back(own, map, stack, &mut numbers, &mut rows, &mut starts, &mut ends, self.row, x);
+                self.resume(numbers, rows, starts, ends, back)
+            }
         }
     }
 }

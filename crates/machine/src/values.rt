@@ -127,7 +127,7 @@ pub(crate) fn assigned<'a>(
 ) -> Worked
     requires { ⌜ (declsOf (now own) ≤ 32) × (count ≤ 16) × (a < 2 ^ 32) × BoolsFit (now own) (now ns) ⌝ }
     requires { ⌜ (length (now ns) ≡ 32) × (length (now bs) ≡ 32) ⌝ }
-    ensures { λ r. ⌜ ((row «open» c : ℕ) (rows starts ends : List ℕ) → RowWorks (now (own .entry)) (columns row (now (ns .entry)) (now (bs .entry)) «open»
+    ensures { λ r. ⌜ ((row «open» c : ℕ) (stack rows starts ends : List ℕ) → RowWorks (now (own .entry)) stack (columns row (now (ns .entry)) (now (bs .entry)) «open»
         rows starts ends count (now (fs .entry)) (now (ls .entry)) (now (hs .entry))) (now (cells .entry)) (now (list .entry)) assign a b c
         (drop at (now (list .entry))) r) ⌝ }
 {

@@ -10,7 +10,7 @@ use lib.ListN.{length, getD}
 use Rattle.lists.specs.If.{if_then_else_}
 use Rattle.lists.proofs.TabLaws.{at-tab, length-tab}
 use Rattle.model.specs.Class.{acceptedPlaces, class, tracked}
-use Rattle.model.specs.Table.{most, Table, Ty, openAt, tableOf, typeAt}
+use Rattle.model.specs.Table.{most, Table, Ty, home, openAt, tableOf, typeAt}
 use Rattle.model.specs.Table.Ty.{bool, uint, pointer}
 use Rattle.model.specs.State.{MachineKind, State, classed, fresh, mostArrays, startOf, zeroOf}
 use Rattle.model.specs.State.MachineKind.{plain, reduced}
@@ -50,10 +50,10 @@ start-holds ps false w = zero-typed w
 
 -- a table can have its fresh state
 pub fresh-can : (ps : List ℕ) (m : MachineKind) (t : Table) → CanHave ps m t (fresh ps m t)
-unfolding fresh openAt cellsLaid
+unfolding fresh openAt home cellsLaid
 fresh-can ps m t = record {
-  row = omega arith;
-  loops = refl;
+  here = record { row = omega arith; loops = refl };
+  stack = refl;
   variables = length-tab (t .decls) (startOf ps m t);
   variable = λ i h. rw (at-tab (t .decls) (startOf ps m t) (Uint 0) i h) (start-holds ps (classed m t i) (typeAt t i));
   laid = record { sequence = tt; room = omega arith };
@@ -94,6 +94,7 @@ module _ (t : Table) (A : Accepted plain t) {F : ℕ → Type 0} (C : Closed F t
   pub linked-agree : (ps : List ℕ) (extra : Extra) {p r : State} → LinkedNow ps extra plain-related p r → Agree ps t p r
   linked-agree ps extra {p} {r} (ks, N, L) = record {
     here = L .here;
+    callers = L .callers;
     variables = L .vars .number;
     variable = L .vars .variable;
     arrays = L .memory .number;

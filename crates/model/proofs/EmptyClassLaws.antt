@@ -1,4 +1,4 @@
--- No state of a run holds an empty class, since each is one that the table can have and regular.
+-- Each state of a run is one that the table can have and regular; so none holds an empty class.
 -- Assumes nothing.
 use mathlib.Core.Path.{_≡_, refl, sym, ap, _∙_, subst}
 use Prim.Native.Nat.{ℕ, zero, suc, _+_, _≤_, _<_}
@@ -23,7 +23,7 @@ use Rattle.model.specs.Demand3.{Numbers}
 use Rattle.model.specs.EmptyClasses.{HandsBackOne, NeverHoldsEmpty, NoEmptyClass, RunHandsBackOne, StateAfter}
 use Rattle.model.proofs.Memory.{split}
 use Rattle.model.proofs.Safe.{Held}
-use Rattle.model.proofs.SafeStep.{MoveOk, going, safe-step}
+use Rattle.model.proofs.SafeStep.{MoveOk, safe-step}
 use Rattle.model.proofs.Kept.{Given, MoveRegular, keeps-step}
 
 -- ---- the state that a run hands back
@@ -104,18 +104,20 @@ module _ (ps : List ℕ) (m : MachineKind) (t : Table) where
   after-can A zero s r C cs e = subst (CanHave ps m t) e C
   after-can A (suc n) s r C cs (f, made, left, e, rest) =
       let h : Held m (MoveOk m (CanHave ps m t)) cs (gives (to made) left) =
-      subst (Held m (MoveOk m (CanHave ps m t)) cs) e (safe-step ps m t A s C (going t s f) .held cs) in
+      subst (Held m (MoveOk m (CanHave ps m t)) cs) e (safe-step ps m t A s C f .held cs) in
       after-can A n made r (h .0) left rest
 
-  after-none : Accepted m t → (n : ℕ) (s r : State) → CanHave ps m t s → Regular ps m t s → (cs : List ℕ) → Numbers cs → StateAfter ps t n s cs r
-      → NoEmptyClass ps r
-  after-none A zero s r C R cs g e = subst (NoEmptyClass ps) e (holds-none s C R)
-  after-none A (suc n) s r C R cs g (f, made, left, e, rest) =
+  -- ... and a regular one, under choices of 32 bits
+  pub after-regular : Accepted m t → (n : ℕ) (s r : State) → CanHave ps m t s → Regular ps m t s → (cs : List ℕ) → Numbers cs → StateAfter ps t n s cs r
+      → Regular ps m t r
+  after-regular A zero s r C R cs g e = subst (Regular ps m t) e R
+  after-regular A (suc n) s r C R cs g (f, made, left, e, rest) =
       let h : Held m (MoveOk m (CanHave ps m t)) cs (gives (to made) left) =
-      subst (Held m (MoveOk m (CanHave ps m t)) cs) e (safe-step ps m t A s C (going t s f) .held cs) in
+      subst (Held m (MoveOk m (CanHave ps m t)) cs) e (safe-step ps m t A s C f .held cs) in
       let k : Given (MoveRegular ps m t) (gives (to made) left) =
-      subst (Given (MoveRegular ps m t)) e (keeps-step ps m t A s C R (going t s f) .kept cs g) in
-      after-none A n made r (h .0) (k .0) left (k .1) rest
+      subst (Given (MoveRegular ps m t)) e (keeps-step ps m t A s C R .kept cs g) in
+      after-regular A n made r (h .0) (k .0) left (k .1) rest
 
 pub never-holds-empty : NeverHoldsEmpty
-never-holds-empty ps m t A s C R choices g n r after = after-none ps m t A n s r C R choices g after
+never-holds-empty ps m t A s C R choices g n r after =
+    holds-none ps m t r (after-can ps m t A n s r C choices after) (after-regular ps m t A n s r C R choices g after)

@@ -1,14 +1,16 @@
 -- The kinds that a machine's table has in place of a plain table's, and what the checks say of those.
 -- Assumes nothing.
 use mathlib.Core.Path.{_≡_, refl, ap, _∙_, fun-ext}
-use Prim.Native.Nat.{ℕ, suc, _-_}
+use Prim.Native.Nat.{ℕ, zero, suc, _-_}
 use mathlib.Core.Bool.{Bool, true, false}
 use Rattle.lists.specs.If.{if_then_else_}
 use Rattle.lists.specs.First.{walk}
 use Rattle.model.specs.Table.{Node, Row, Table, markedPointer, markedUint, matchingEnd, nestAt, nestOf, nodeAt, nodeKind, rowAt, rowKind, scanned, typeAt}
+use Rattle.model.specs.Table.{atEnd, counted, home, isOpening, localsAt, localsOf, opening, opensProcedure, stretch, within}
 use Rattle.model.specs.Table.Node.{variable, uintConstant, boolConstant, cell, plus, minus, less, atMost, equal, conditional, valid, classVariable}
 use Rattle.model.specs.Table.Node.{reducedCell, reducedValid, noNode}
-use Rattle.model.specs.Table.Row.{skip, assign, store, assert, assume, array, loop, loopEnd, reducedStore, reducedArray, classLoop, noRow}
+use Rattle.model.specs.Table.Row.{skip, assign, store, assert, assume, array, loop, loopEnd, reducedStore, reducedArray, classLoop}
+use Rattle.model.specs.Table.Row.{procedure, returns, call, noRow}
 use Rattle.model.specs.State.{MachineKind, classed}
 use Rattle.model.specs.State.MachineKind.{plain, reduced}
 
@@ -55,6 +57,9 @@ rowIn m u q loopEnd = loopEnd
 rowIn m u q reducedStore = reducedStore
 rowIn m u q reducedArray = reducedArray
 rowIn m u q classLoop = classLoop
+rowIn m u q procedure = procedure
+rowIn m u q returns = returns
+rowIn m u q call = call
 rowIn m u q noRow = noRow
 
 -- a kind that a plain table has
@@ -75,24 +80,27 @@ PlainNode reducedCell = ⊥
 PlainNode reducedValid = ⊥
 PlainNode noNode = Unit {0}
 
--- ... and what the checks say of the variable a
-abbrev pub PlainRow : Table → Row → ℕ → Type 0
-PlainRow t skip a = Unit {0}
-PlainRow t assign a = markedUint t a ≡ false
-PlainRow t store a = Unit {0}
-PlainRow t assert a = Unit {0}
-PlainRow t assume a = Unit {0}
-PlainRow t array a = markedUint t a ≡ false
-PlainRow t loop a = Unit {0}
-PlainRow t loopEnd a = Unit {0}
-PlainRow t reducedStore a = ⊥
-PlainRow t reducedArray a = ⊥
-PlainRow t classLoop a = ⊥
-PlainRow t noRow a = Unit {0}
+-- ... and what the checks say of its variables: those that 33, 37 or a call sets, and locals, are no marked uints
+abbrev pub PlainRow : Table → Row → ℕ → ℕ → ℕ → Type 0
+PlainRow t skip a b c = Unit {0}
+PlainRow t assign a b c = markedUint t a ≡ false
+PlainRow t store a b c = Unit {0}
+PlainRow t assert a b c = Unit {0}
+PlainRow t assume a b c = Unit {0}
+PlainRow t array a b c = markedUint t a ≡ false
+PlainRow t loop a b c = Unit {0}
+PlainRow t loopEnd a b c = Unit {0}
+PlainRow t reducedStore a b c = ⊥
+PlainRow t reducedArray a b c = ⊥
+PlainRow t classLoop a b c = ⊥
+PlainRow t procedure a b c = (i : ℕ) → within (stretch a b) i ≡ true → markedUint t i ≡ false
+PlainRow t returns a b c = Unit {0}
+PlainRow t call a b c = markedUint t c ≡ false
+PlainRow t noRow a b c = Unit {0}
 
 pub record PlainKinds (t : Table) : Type 0 where
   pub node : (n : ℕ) → PlainNode (nodeKind (nodeAt t n .kind))
-  pub row : (n : ℕ) → PlainRow t (rowKind (rowAt t n .kind)) (rowAt t n .a)
+  pub row : (n : ℕ) → PlainRow t (rowKind (rowAt t n .kind)) (rowAt t n .a) (rowAt t n .b) (rowAt t n .c)
 
 -- u has the lines of the plain table t, with the kinds of machine m: by which variables hold classes (us), or point to reduced arrays (qs)
 pub record NodesIn (m : MachineKind) (us : ℕ → Bool) (t u : Table) : Type 0 where
@@ -146,6 +154,9 @@ row-plain loopEnd = refl
 row-plain reducedStore = refl
 row-plain reducedArray = refl
 row-plain classLoop = refl
+row-plain procedure = refl
+row-plain returns = refl
+row-plain call = refl
 row-plain noRow = refl
 
 -- the plain machine takes the plain table itself
@@ -163,7 +174,7 @@ table-plain t = record {
   c = λ n. refl;
 }
 
--- ---- loops end at the same rows
+-- ---- loops end at the same rows, and procedures open there
 
 same-nest : (m : MachineKind) (u q : Bool) (k : Row) → nestOf (rowIn m u q k) ≡ nestOf k
 same-nest m u q skip = refl
@@ -180,7 +191,30 @@ same-nest m u q loopEnd = refl
 same-nest m u q reducedStore = refl
 same-nest m u q reducedArray = refl
 same-nest m u q classLoop = refl
+same-nest m u q procedure = refl
+same-nest m u q returns = refl
+same-nest m u q call = refl
 same-nest m u q noRow = refl
+
+pub same-opens : (m : MachineKind) (u q : Bool) (k : Row) → opensProcedure (rowIn m u q k) ≡ opensProcedure k
+same-opens m u q skip = refl
+same-opens m u q assign = refl
+same-opens plain u q store = refl
+same-opens reduced u q store = refl
+same-opens m u q assert = refl
+same-opens m u q assume = refl
+same-opens m u true array = refl
+same-opens m u false array = refl
+same-opens m true q loop = refl
+same-opens m false q loop = refl
+same-opens m u q loopEnd = refl
+same-opens m u q reducedStore = refl
+same-opens m u q reducedArray = refl
+same-opens m u q classLoop = refl
+same-opens m u q procedure = refl
+same-opens m u q returns = refl
+same-opens m u q call = refl
+same-opens m u q noRow = refl
 
 module _ {m : MachineKind} {us qs : ℕ → Bool} (t u : Table) (R : TableIn m us qs t u) where
   pub nest-same : (r : ℕ) → nestAt u r ≡ nestAt t r
@@ -192,3 +226,29 @@ module _ {m : MachineKind} {us qs : ℕ → Bool} (t u : Table) (R : TableIn m u
       ap (λ (k : ℕ). walk (λ i rest. scanned (nestAt u i) i rest) (λ d. k) (suc r) (k - suc r) 0) (R .rows)
       ∙ ap (λ (g : ℕ → (ℕ → ℕ) → ℕ → ℕ). walk g (λ d. t .rows) (suc r) (t .rows - suc r) 0)
           (fun-ext λ i. fun-ext λ rest. ap (λ k. scanned k i rest) (nest-same i))
+
+  pub same-opening : (r : ℕ) → isOpening u r ≡ isOpening t r
+  same-opening r = ap opensProcedure (R .kind r) ∙ same-opens m _ _ (rowKind (rowAt t r .kind))
+
+  pub same-atEnd : (r : ℕ) → atEnd u r ≡ atEnd t r
+  unfolding atEnd
+  same-atEnd r = rw (R .rows, same-opening r)
+
+  pub same-home : (r : ℕ) → home u r ≡ home t r
+  unfolding home
+  same-home zero = refl
+  same-home (suc r) = rw (same-opening r, same-home r)
+
+  pub same-number : (k : ℕ) → opening u k ≡ opening t k
+  unfolding opening
+  same-number k =
+      ap (λ (n : ℕ). walk (λ i rest. counted (isOpening u i) i rest) (λ k. n) 0 n k) (R .rows)
+      ∙ ap (λ (g : ℕ → (ℕ → ℕ) → ℕ → ℕ). walk g (λ k. t .rows) 0 (t .rows) k)
+          (fun-ext λ i. fun-ext λ rest. ap (λ b. counted b i rest) (same-opening i))
+
+  pub same-localsOf : (q : ℕ) → localsOf u q ≡ localsOf t q
+  same-localsOf zero = refl
+  same-localsOf (suc r) = ap (λ (a : ℕ). stretch a (rowAt u r .b)) (R .a r) ∙ ap (stretch (rowAt t r .a)) (R .b r)
+
+  pub same-locals : (r : ℕ) → localsAt u r ≡ localsAt t r
+  same-locals r = ap (localsOf u) (same-home r) ∙ same-localsOf (home t r)

@@ -6,13 +6,14 @@ use mathlib.Core.Bool.{Bool, true, false}
 use mathlib.Core.List.{List, [], _∷_}
 use lib.ListN.{length, getD}
 use Rattle.lists.specs.If.{if_then_else_}
-use Rattle.model.specs.State.{Array, Loop, MachineKind, State, Value, mostArrays, placesIn}
+use Rattle.model.specs.State.{Array, Caller, Loop, MachineKind, State, Value, mostArrays, placesIn}
 use Rattle.model.specs.State.MachineKind.{reduced}
 use Rattle.model.specs.State.Value.{Truth, Uint, Class, Pointer}
 use Rattle.model.specs.Eval.{Of, indexOf, keeps, cellsLaid}
 use Rattle.model.specs.Agree.{SameVariable, arrayAt}
 use Rattle.model.specs.Accepted.{Laid}
-use Rattle.model.specs.Table.{Table, Ty, markedPointer, markedUint, nodeAt, most}
+use Rattle.model.specs.Table.{Table, Ty, markedPointer, markedUint, nodeAt, rowAt, rowKind, most}
+use Rattle.model.specs.Table.Row.{call}
 use Rattle.model.specs.Table.Ty.{bool, uint, pointer}
 use Rattle.model.proofs.KindsIn.{PlainKinds, Reduces, TableIn}
 use Rattle.model.proofs.Match.{Plainly}
@@ -36,6 +37,12 @@ FitOf F pointer p = F (p .place)
 abbrev pub FitLoops : (ℕ → Type 0) → List Loop → Type 0
 FitLoops F [] = Unit {0}
 FitLoops F (l ∷ ls) = F (l .start) × F (l .end) × FitLoops F ls
+
+-- callers whose numbers fit, each kept at a 45
+abbrev pub FitCallers : (ℕ → Type 0) → Table → List Caller → Type 0
+FitCallers F t [] = Unit {0}
+FitCallers F t (c ∷ cs) =
+    FitLoops F (c .here .loops) × ((i : ℕ) → F (getD (c .locals) i 0)) × (rowKind (rowAt t (c .here .row) .kind) ≡ call) × FitCallers F t cs
 
 -- what is worked out from numbers that fit fits, as does every constant
 pub record Closed (F : ℕ → Type 0) (t : Table) : Type 0 where
@@ -86,10 +93,13 @@ pub record LinkedMemory (m : MachineKind) (ps : List ℕ) (extra : Extra) (ks : 
   pub fewer : cellsLaid ps ra ≤ cellsLaid (placesIn m ps) pa + extra .perArray * length pa
   pub room : length pc + extra .inAll ≤ length rc
 
-pub record Linked (m : MachineKind) (F : ℕ → Type 0) (ps : List ℕ) (extra : Extra) (only : ℕ → Bool) (ks : List Bool) (p r : State) : Type 0 where
+pub record Linked (m : MachineKind) (F : ℕ → Type 0) (ps : List ℕ) (extra : Extra) (t : Table) (only : ℕ → Bool) (ks : List Bool) (p r : State)
+    : Type 0 where
   pub here : r .here ≡ p .here
+  pub callers : r .callers ≡ p .callers
   pub vars : LinkedVars ps only (p .vars) (r .vars)
   pub memory : LinkedMemory m ps extra ks (p .arrays) (p .cells) (r .arrays) (r .cells)
   pub fitVars : (i : ℕ) → FitValue F (getD (p .vars) i (Uint 0))
   pub fitCells : (i : ℕ) → F (getD (p .cells) i 0)
   pub fitLoops : FitLoops F (p .here .loops)
+  pub fitCallers : FitCallers F t (p .callers)

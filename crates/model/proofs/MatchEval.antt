@@ -162,7 +162,7 @@ if-same true = refl
 if-same false = refl
 
 module _ {m : MachineKind} {F : ℕ → Type 0} {ps : List ℕ} {extra : Extra} {us : ℕ → Bool} {t : Table} {ks : List Bool} {p r : State}
-    (C : Closed F t) (uints-also : (i : ℕ) → AlsoMarked m (us i) (markedUint t i)) (A : Linked m F ps extra (onlySecond us (markedUint t)) ks p r) where
+    (C : Closed F t) (uints-also : (i : ℕ) → AlsoMarked m (us i) (markedUint t i)) (A : Linked m F ps extra t (onlySecond us (markedUint t)) ks p r) where
   abbrev fs : List ℕ
   fs = placesIn m ps
 
@@ -302,7 +302,7 @@ module _ {m : MachineKind} {F : ℕ → Type 0} {ps : List ℕ} {extra : Extra} 
   match-rule w noNode h a b c k ih = matches-wrong
 
 module _ {m : MachineKind} {F : ℕ → Type 0} {ps : List ℕ} {extra : Extra} {us bs : ℕ → Bool} {t v u : Table}
-    (R : Related m F us bs t v u) {ks : List Bool} {p r : State} (A : Linked m F ps extra (onlySecond us (markedUint t)) ks p r) where
+    (R : Related m F us bs t v u) {ks : List Bool} {p r : State} (A : Linked m F ps extra t (onlySecond us (markedUint t)) ks p r) where
   plain-eval : (f : ℕ) → Plainly m [] → evalF (placesIn m ps) (contentsOf p) v f ≡ evalF [] (contentsOf p) t f
   plain-eval f h = ap (λ qs. evalF qs (contentsOf p) v f) (no-places m ps h) ∙ ap (λ s. evalF [] (contentsOf p) s f) (R .itself h)
 

@@ -11,9 +11,10 @@ use Rattle.lists.specs.If.{if_then_else_}
 use Rattle.lists.specs.Tab.{tab}
 use Rattle.lists.proofs.TabLaws.{at-tab, length-tab}
 use Rattle.model.specs.Class.{class}
-use Rattle.model.specs.Table.{Row, Table, Ty, markedPointer, markedUint, rowAt, rowKind, typeAt}
+use Rattle.model.specs.Table.{Row, Table, Ty, atEnd, markedPointer, markedUint, rowAt, rowKind, typeAt}
 use Rattle.model.specs.Table.Ty.{bool, uint, pointer}
-use Rattle.model.specs.Table.Row.{skip, assign, store, assert, assume, array, loop, loopEnd, reducedStore, reducedArray, classLoop, noRow}
+use Rattle.model.specs.Table.Row.{skip, assign, store, assert, assume, array, loop, loopEnd, reducedStore, reducedArray, classLoop}
+use Rattle.model.specs.Table.Row.{procedure, returns, call, noRow}
 use Rattle.model.specs.Work.{Out}
 use Rattle.model.specs.State.{MachineKind, State, cellCount, classed, fresh, startOf, zeroOf, placesIn}
 use Rattle.model.specs.State.MachineKind.{plain, reduced}
@@ -28,6 +29,7 @@ use Rattle.model.specs.Demand3.{MachineEnd}
 use Rattle.model.proofs.Match.{Alike, All, Fitting, Plainly, all-append, at-none, left, plainly}
 use Rattle.model.proofs.Match.Alike.{both-give, both-fail, both-bad, both-none, both-stuck}
 use Rattle.model.proofs.Memory.{split}
+use Rattle.model.proofs.KindsIn.{same-atEnd}
 use Rattle.model.proofs.Linked.{AlsoMarked, Extra, FitValue, Linked, Related, Tight, onlySecond}
 use Rattle.model.proofs.MatchEval.{no-places, same-places}
 use Rattle.model.proofs.MatchStep.{Moves, match-step}
@@ -78,7 +80,7 @@ abbrev pub NoPointer : Table → Type 0
 NoPointer t = (a : ℕ) → markedPointer t a ≡ false
 
 pub none-next : (t : Table) → NoPointer t → (n : ℕ) (ks : List Bool) → NoneHeld ks → NoneHeld (heldNext t n ks)
-none-next t none n ks h = go (rowKind (rowAt t n .kind))
+none-next t none n ks h = either (atEnd t n)
   where
     one-more : (ks : List Bool) → NoneHeld ks → NoneHeld (ks ++ false ∷ [])
     one-more [] h zero = refl
@@ -98,24 +100,31 @@ none-next t none n ks h = go (rowKind (rowAt t n .kind))
     go reducedStore = h
     go reducedArray = h
     go classLoop = h
+    go procedure = h
+    go returns = h
+    go call = h
     go noRow = h
+
+    either : (b : Bool) → NoneHeld (if b then ks else heldAfter (rowKind (rowAt t n .kind)) (markedPointer t (rowAt t n .a)) ks)
+    either true = h
+    either false = go (rowKind (rowAt t n .kind))
 
 -- linked, for some arrays that the second holds reduced: none, where no pointer is marked
 abbrev pub LinkedNow : {m : MachineKind} {F : ℕ → Type 0} {us bs : ℕ → Bool} {t v u : Table} → List ℕ → Extra → Related m F us bs t v u → State → State → Type 0
-LinkedNow {m} {F} {us} {bs} {t} ps extra R p r = (ks : List Bool) × (NoPointer t → NoneHeld ks) × Linked m F ps extra (onlySecond us (markedUint t)) ks p r
+LinkedNow {m} {F} {us} {bs} {t} ps extra R p r = (ks : List Bool) × (NoPointer t → NoneHeld ks) × Linked m F ps extra t (onlySecond us (markedUint t)) ks p r
 
 module _ {m : MachineKind} {F : ℕ → Type 0} (ps : List ℕ) (extra : Extra) {us bs : ℕ → Bool} {t v u : Table} (R : Related m F us bs t v u)
     (small : (n : ℕ) → class ps n ≤ n + extra .perArray) where
   abbrev L : List Bool → State → State → Type 0
-  L ks p r = Linked m F ps extra (onlySecond us (markedUint t)) ks p r
+  L ks p r = Linked m F ps extra t (onlySecond us (markedUint t)) ks p r
 
   inside-first : (p : State) (b : Bool) → finished t p ≡ b → finished v p ≡ b
   unfolding finished
-  inside-first p b e = rw (R .first .rows) e
+  inside-first p b e = rw (same-atEnd t v (R .first) (p .here .row)) e
 
   inside-second : {ks : List Bool} {p r : State} → L ks p r → (b : Bool) → finished t p ≡ b → finished u r ≡ b
   unfolding finished
-  inside-second A b e = rw (A .here, R .second .rows) e
+  inside-second A b e = rw (A .here, A .callers, same-atEnd t u (R .second) _) e
 
   plain-step : (p : State) (cs : List ℕ) → Plainly m cs → step [] t p [] ≡ step (placesIn m ps) v p cs
   plain-step p cs h =
@@ -256,10 +265,11 @@ module _ {m : MachineKind} {F : ℕ → Type 0} (ps : List ℕ) (extra : Extra) 
   fresh-fits false uint = R .closed .none
   fresh-fits false pointer = R .closed .none
 
-  pub fresh-linked : Linked m F ps extra (onlySecond us (markedUint t)) [] (fresh (placesIn m ps) m v) (fresh ps reduced u)
+  pub fresh-linked : Linked m F ps extra t (onlySecond us (markedUint t)) [] (fresh (placesIn m ps) m v) (fresh ps reduced u)
   unfolding fresh cellsLaid
   fresh-linked = record {
     here = refl;
+    callers = refl;
     vars = record {
       number = length-tab (u .decls) (startOf ps reduced u) ∙ R .second .decls ∙ sym (length-tab (v .decls) (startOf (placesIn m ps) m v) ∙ R .first .decls);
       variable = λ i l.
@@ -289,6 +299,7 @@ module _ {m : MachineKind} {F : ℕ → Type 0} (ps : List ℕ) (extra : Extra) 
             (R .closed .none))
         (λ l. subst F (sym (getD-replicate (cellCount m) i 0 0 l)) (R .closed .none));
     fitLoops = tt;
+    fitCallers = tt;
   }
 
   pub fresh-runs : ((n : ℕ) → class ps n ≤ n + extra .perArray) → (limit : ℕ) (cs : List ℕ) → All F cs

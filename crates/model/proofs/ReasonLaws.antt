@@ -4,26 +4,27 @@ use mathlib.Core.Path.{_≡_, refl, sym, ap, _∙_, subst}
 use mathlib.Core.Logic.{_≢_, ⊎-elim}
 use Prim.Native.Nat.{ℕ, zero, suc, _+_}
 use native.Mathlib.Omega.{arith}
-use mathlib.Core.Bool.{Bool, true, false}
+use mathlib.Core.Bool.{Bool, true, false, _&&_}
 use mathlib.Core.List.{List, [], _∷_}
 use lib.ListN.{length}
 use lib.Dec.{ltb, leb, eqb}
 use Rattle.lists.specs.If.{if_then_else_}
 use Rattle.model.specs.Class.{class}
-use Rattle.model.specs.Table.{Table, Ty, Node, nodeAt, nodeKind, typeAt, rowAt, Row, rowKind, matchingEnd, most}
+use Rattle.model.specs.Table.{Table, Ty, Node, nodeAt, nodeKind, typeAt, rowAt, Row, rowKind, matchingEnd, atEnd, opening, Stretch, most}
 use Rattle.model.specs.Table.Ty.{bool, uint, pointer}
 use Rattle.model.specs.Table.Node.{variable, uintConstant, boolConstant, cell, plus, minus, less, atMost, equal, conditional, valid, classVariable}
 use Rattle.model.specs.Table.Node.{reducedCell, reducedValid, noNode}
-use Rattle.model.specs.Table.Row.{skip, assign, store, assert, assume, array, loop, loopEnd, reducedStore, reducedArray, classLoop, noRow}
+use Rattle.model.specs.Table.Row.{skip, assign, store, assert, assume, array, loop, loopEnd, reducedStore, reducedArray, classLoop}
+use Rattle.model.specs.Table.Row.{procedure, returns, call, noRow}
 use Rattle.model.specs.Work.{Reason, reasonNumber, Out, Work, _>>=_, next, give, fail, wrong, choose}
 use Rattle.model.specs.Work.Out.{gives, fails, badChoice, noChoice, stuck}
 use Rattle.model.specs.Work.Reason.{pastLength, counterTooLarge}
-use Rattle.model.specs.State.{Value, formOf, Array, Loop, State}
+use Rattle.model.specs.State.{Value, formOf, Array, Caller, Loop, State, mostCallers}
 use Rattle.model.specs.State.Value.{Truth, Uint, Class, Pointer}
 use Rattle.model.specs.Eval.{Contents, contentsOf, Of, Ptr, add, arrayOf, asClass, below, bools, cellOf, compare, eval, evalF, indexOf}
 use Rattle.model.specs.Eval.{isValid, keeps, load, ofType, present, reducedLoad, rule, sizeOf, subtract, sumOrDifference, uints, value, variableOf}
 use Rattle.model.specs.Step.{addArray, enter, loopAt, newArray, node, pastEnd, put, reducedWrite, repeatLoop, rowRule, setVar, step, stepAt}
-use Rattle.model.specs.Step.{past, withLoops, write}
+use Rattle.model.specs.Step.{callProcedure, giveBack, handOver, past, uintsIn, withLoops, withWork, write}
 use Rattle.model.specs.Step.Move.{to}
 use Rattle.model.proofs.EvalLaws.{eval-is}
 use Rattle.model.specs.Reasons.{FailsFor, ValidFailsAsOperand, NodesNeverCounter, kindHere, ClosingOnlyCounter, OthersNeverCounter}
@@ -139,10 +140,27 @@ module _ {P : Reason → Type 0} where
   loop-for ps t s r reducedStore x y o = wrong-for
   loop-for ps t s r reducedArray x y o = wrong-for
   loop-for ps t s r classLoop x y o = then-for (choose-for _) (λ v. then-for (choose-for _) (λ w. enter-for t s r (Class (class ps v)) v w o))
+  loop-for ps t s r procedure x y o = wrong-for
+  loop-for ps t s r returns x y o = wrong-for
+  loop-for ps t s r call x y o = wrong-for
   loop-for ps t s r noRow x y o = wrong-for
 
   end-for : (t : Table) (r : ℕ) → For P (pastEnd t r)
   end-for t r = if-for (ltb (matchingEnd t r) (t .rows)) give-for wrong-for
+
+  hand-for : (vs : List Value) (from upon : Stretch) (f : ℕ → ℕ) → For P (handOver vs from upon f)
+  hand-for vs from upon f = if-for (uintsIn vs from && uintsIn vs upon) give-for wrong-for
+
+  call-for : (t : Table) (s : State) (k x : ℕ) → For P (callProcedure t s k x)
+  call-for t s k x =
+      if-for (leb mostCallers (length (s .callers))) give-for
+      (then-for (if-for (ltb (opening t k) (t .rows)) give-for wrong-for) (λ q. then-for (hand-for (s .vars) _ _ _) (λ vs. give-for)))
+
+  back-for : (t : Table) (s : State) (cs : List Caller) (x : ℕ) → For P (giveBack t s cs x)
+  back-for t s [] x = wrong-for
+  back-for t s (c ∷ cs) x =
+      then-for (hand-for (s .vars) _ _ _)
+      (λ vs. then-for (set-for (withWork s (c .here) cs vs) (rowAt t (c .here .row) .c) (Uint x)) (λ s′. give-for {a = to (past s′)}))
 
 -- a failure, as one of a pointer
 abbrev failure : Out Bool → Out Ptr
@@ -274,6 +292,9 @@ module _ (ps : List ℕ) (t : Table) (s : State) where
   row-for n reducedStore a b c h = then-for (node-for pointer a) (λ p. then-for (node-for uint b) (reducedWrite-for p))
   row-for n reducedArray a b c h = then-for (node-for uint b) (λ l. new-for ps s a l true)
   row-for n classLoop a b c h = then-for (node-for uint b) (λ x. then-for (node-for uint c) (λ y. loop-for ps t s n classLoop x y (end-for t n)))
+  row-for n procedure a b c h = wrong-for
+  row-for n returns a b c h = then-for (node-for uint a) (back-for t s (s .callers))
+  row-for n call a b c h = then-for (node-for uint b) (call-for t s a)
   row-for n noRow a b c h = wrong-for
 
   repeat-for : (ls : List Loop) → For (λ why. why ≡ counterTooLarge) (repeatLoop ps t s ls)
@@ -289,8 +310,10 @@ module _ (ps : List ℕ) (t : Table) (s : State) where
 
 pub others-never-counter : OthersNeverCounter
 unfolding step stepAt
-others-never-counter ps t s cs h = row-for ps t s (s .here .row) (kindHere t s) _ _ _ h .failsFor cs
+others-never-counter ps t s cs h =
+    if-for (atEnd t (s .here .row)) (back-for t s (s .callers) 0) (row-for ps t s (s .here .row) (kindHere t s) _ _ _ h) .failsFor cs
 
 pub closing-only-counter : ClosingOnlyCounter
 unfolding step stepAt
-closing-only-counter ps t s cs h = closing-for ps t s (s .here .row) (kindHere t s) _ _ _ h .failsFor cs
+closing-only-counter ps t s cs h =
+    if-for (atEnd t (s .here .row)) (back-for t s (s .callers) 0) (closing-for ps t s (s .here .row) (kindHere t s) _ _ _ h) .failsFor cs

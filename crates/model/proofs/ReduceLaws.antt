@@ -15,11 +15,12 @@ use Rattle.lists.proofs.BoolLaws.{and-left, and-right}
 use Rattle.lists.proofs.TabLaws.{all-at, at-tab, length-tab, same-sum}
 use Rattle.lists.proofs.CountLaws.{bit}
 use Rattle.model.specs.Table.{Node, Row, Table, Ty, count, isDeclaration, isNode, isRow, lineAt, marked, nodeKind, nodeKinds, rowKind, rowKinds}
-use Rattle.model.specs.Table.{tableOf, typeOf}
+use Rattle.model.specs.Table.{opensProcedure, tableOf, typeOf}
 use Rattle.model.specs.Table.Ty.{bool, uint, pointer}
 use Rattle.model.specs.Table.Node.{variable, uintConstant, boolConstant, cell, plus, minus, less, atMost, equal, conditional, valid, classVariable}
 use Rattle.model.specs.Table.Node.{reducedCell, reducedValid, noNode}
-use Rattle.model.specs.Table.Row.{skip, assign, store, assert, assume, array, loop, loopEnd, reducedStore, reducedArray, classLoop, noRow}
+use Rattle.model.specs.Table.Row.{skip, assign, store, assert, assume, array, loop, loopEnd, reducedStore, reducedArray, classLoop}
+use Rattle.model.specs.Table.Row.{procedure, returns, call, noRow}
 use Rattle.model.specs.State.MachineKind.{plain, reduced}
 use Rattle.model.specs.Reduce.{reduce, reducedKind, reducedWord}
 use Rattle.model.specs.Accepted.{known, tyNumber}
@@ -73,6 +74,9 @@ rowNumber loopEnd = 39
 rowNumber reducedStore = 40
 rowNumber reducedArray = 41
 rowNumber classLoop = 42
+rowNumber procedure = 43
+rowNumber returns = 44
+rowNumber call = 45
 rowNumber noRow = 0
 
 row-back : (k : Row) → rowKind (rowNumber k) ≡ k
@@ -88,6 +92,9 @@ row-back loopEnd = refl
 row-back reducedStore = refl
 row-back reducedArray = refl
 row-back classLoop = refl
+row-back procedure = refl
+row-back returns = refl
+row-back call = refl
 row-back noRow = refl
 
 pub ty-back : (w : Ty) → typeOf (tyNumber w) ≡ w
@@ -96,10 +103,10 @@ ty-back bool = refl
 ty-back uint = refl
 ty-back pointer = refl
 
--- ---- facts of every kind, by computing those below 43
+-- ---- facts of every kind, by computing those below 46
 
 -- a number above all kinds is no kind, and stays
-stays : (u q : Bool) (k : ℕ) → 43 ≤ k → reducedKind u q k ≡ k
+stays : (u q : Bool) (k : ℕ) → 46 ≤ k → reducedKind u q k ≡ k
 unfolding reducedKind
 stays u q k h =
     simp (ne-eqb k 16 (λ e. omega arith), ne-eqb k 19 (λ e. omega arith), ne-eqb k 26 (λ e. omega arith), ne-eqb k 34 (λ e. omega arith), ne-eqb k 37
@@ -113,26 +120,26 @@ declaration-stays u q k e =
     simp (ne-eqb k 16 (λ e. omega arith), ne-eqb k 19 (λ e. omega arith), ne-eqb k 26 (λ e. omega arith), ne-eqb k 34 (λ e. omega arith), ne-eqb k 37
         (λ e. omega arith), ne-eqb k 38 (λ e. omega arith))
 
-pub no-node : (k : ℕ) → 43 ≤ k → nodeKind k ≡ noNode
+pub no-node : (k : ℕ) → 46 ≤ k → nodeKind k ≡ noNode
 unfolding nodeKind
 no-node k h = List·getD-eq-default nodeKinds noNode {n = k} (omega arith)
 
-pub no-row : (k : ℕ) → 43 ≤ k → rowKind k ≡ noRow
+pub no-row : (k : ℕ) → 46 ≤ k → rowKind k ≡ noRow
 unfolding rowKind
 no-row k h = List·getD-eq-default rowKinds noRow {n = k} (omega arith)
 
--- two functions of a kind and of what its operand is: computed to agree below 43
+-- two functions of a kind and of what its operand is: computed to agree below 46
 abbrev agree : (Bool → Bool → ℕ → ℕ) → (Bool → Bool → ℕ → ℕ) → Bool → Bool → Bool
-agree f g u q = all 43 (λ k. eqb (f u q k) (g u q k))
+agree f g u q = all 46 (λ k. eqb (f u q k) (g u q k))
 
 abbrev agreeAll : (Bool → Bool → ℕ → ℕ) → (Bool → Bool → ℕ → ℕ) → Bool
 agreeAll f g = (agree f g true true && agree f g true false) && (agree f g false true && agree f g false false)
 
 -- ... agree, if they do so above
-by-kinds : (f g : Bool → Bool → ℕ → ℕ) → agreeAll f g ≡ true → ((u q : Bool) (k : ℕ) → 43 ≤ k → f u q k ≡ g u q k) → (u q : Bool) (k : ℕ) → f u q k ≡ g u q k
-by-kinds f g e h u q k = elim (decLe 43 k) [
+by-kinds : (f g : Bool → Bool → ℕ → ℕ) → agreeAll f g ≡ true → ((u q : Bool) (k : ℕ) → 46 ≤ k → f u q k ≡ g u q k) → (u q : Bool) (k : ℕ) → f u q k ≡ g u q k
+by-kinds f g e h u q k = elim (decLe 46 k) [
   | yes l ↦ h u q k l
-  | no l ↦ eqb-true (f u q k) (g u q k) (all-at 43 (λ i. eqb (f u q i) (g u q i)) (case u q) k (omega arith))
+  | no l ↦ eqb-true (f u q k) (g u q k) (all-at 46 (λ i. eqb (f u q i) (g u q i)) (case u q) k (omega arith))
 ]
   where
     left : (agree f g true true && agree f g true false) ≡ true
@@ -203,6 +210,15 @@ pointer-numbers = by-kinds (λ u q k. bit (eqb (reducedKind u q k) 3)) (λ u q k
 new-pointer : (u q : Bool) (k : ℕ) → eqb (reducedKind u q k) 3 ≡ eqb k 3
 new-pointer u q k = bit-back _ _ (pointer-numbers u q k)
 
+-- 43 opens a procedure, and no other kind does
+opening-numbers : (u q : Bool) (k : ℕ) → bit (opensProcedure (rowKind k)) ≡ bit (eqb k 43)
+unfolding all rowKind
+opening-numbers = by-kinds (λ u q k. bit (opensProcedure (rowKind k))) (λ u q k. bit (eqb k 43)) refl
+    (λ u q k h. rw (no-row k h, ne-eqb k 43 (λ e. omega arith)))
+
+pub opens-43 : (k : ℕ) → opensProcedure (rowKind k) ≡ eqb k 43
+opens-43 k = bit-back _ _ (opening-numbers true true k)
+
 -- a plain kind becomes a kind that the reduced machine knows
 abbrev implies : Bool → Bool → Bool
 implies b c = if b then c else true
@@ -210,8 +226,8 @@ implies b c = if b then c else true
 new-known : (u q : Bool) (k : ℕ) → bit (implies (known plain k) (known reduced (reducedKind u q k))) ≡ 1
 unfolding all known reducedKind
 new-known = by-kinds (λ u q k. bit (implies (known plain k) (known reduced (reducedKind u q k)))) (λ u q k. 1) refl
-    (λ u q k h. rw (lt-leb k 39 (omega arith), lt-leb k 26 (omega arith), lt-leb k 3 (omega arith), le-leb 1 k (omega arith), le-leb 16 k
-        (omega arith), le-leb 32 k (omega arith)))
+    (λ u q k h. rw (lt-leb k 45 (omega arith), lt-leb k 39 (omega arith), lt-leb k 26 (omega arith), lt-leb k 3 (omega arith), le-leb 1 k
+        (omega arith), le-leb 16 k (omega arith), le-leb 32 k (omega arith), le-leb 43 k (omega arith)))
 
 pub known-reduced : (u q : Bool) (k : ℕ) → known plain k ≡ true → known reduced (reducedKind u q k) ≡ true
 known-reduced u q k h = bit-back _ true (subst (λ b. bit (implies b (known reduced (reducedKind u q k))) ≡ 1) h (new-known u q k))

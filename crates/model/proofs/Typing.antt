@@ -1,30 +1,34 @@
 -- What the tests of an accepted table say of each node and each row, in the form in which the theory uses it.
 -- Assumes nothing.
 use mathlib.Core.Path.{_≡_, refl, sym, ap, _∙_, subst}
-use Prim.Native.Nat.{ℕ, _+_, _*_, _≤_, _<_}
+use Prim.Native.Nat.{ℕ, suc, _+_, _-_, _*_, _≤_, _<_}
 use native.Mathlib.Decide.{decLe}
 use native.Mathlib.Omega.{arith}
-use mathlib.Core.Bool.{Bool, true, false, not, _&&_, false≢true, true≢false}
+use mathlib.Core.Bool.{Bool, true, false, not, _&&_, _||_, false≢true, true≢false}
 use mathlib.Core.List.{List, [], _∷_}
 use lib.ListN.{List·getD-eq-default}
 use lib.Dec.{ltb, leb, eqb}
-use borrow.Author.Tests.{ltb-true, lt-ltb, leb-false, eqb-true, not-true}
+use borrow.Author.Tests.{ltb-true, lt-ltb, leb-true, leb-false, eqb-true, not-true}
 use Rattle.lists.specs.If.{if_then_else_}
 use Rattle.lists.specs.Tab.{all}
 use Rattle.lists.proofs.TabLaws.{all-at}
 use Rattle.lists.proofs.FallingLaws.{value-is}
 use Rattle.model.specs.Table.{Nest, Node, Row, Table, Ty, declAt, lineAt, lineCount, marked, markedPointer, markedUint, nestAt, nodeAt, nodeKind}
-use Rattle.model.specs.Table.{matchingEnd, nodeRoles, openAt, rowAt, rowKind, rowRoles, typeAt, typeOf}
+use Rattle.model.specs.Table.{between, isOpening, matchingEnd, nodeRoles, noneOpen, openAt, opening, rowAt, rowKind, rowRoles, stretch}
+use Rattle.model.specs.Table.{typeAt, typeOf, within}
 use Rattle.model.specs.Table.Ty.{bool, uint, pointer}
 use Rattle.model.specs.Table.Node.{variable, uintConstant, boolConstant, cell, plus, minus, less, atMost, equal, conditional, valid, classVariable}
 use Rattle.model.specs.Table.Node.{reducedCell, reducedValid, noNode}
-use Rattle.model.specs.Table.Row.{skip, assign, store, assert, assume, array, loop, loopEnd, reducedStore, reducedArray, classLoop, noRow}
+use Rattle.model.specs.Table.Row.{skip, assign, store, assert, assume, array, loop, loopEnd, reducedStore, reducedArray, classLoop}
+use Rattle.model.specs.Table.Row.{procedure, returns, call, noRow}
 use Rattle.model.specs.Table.Nest.{opens, closes, neither}
 use Rattle.model.specs.State.{MachineKind, classed}
 use Rattle.model.specs.State.MachineKind.{plain, reduced}
-use Rattle.model.specs.Accepted.{Accepted, allThere, isReduced, known, misnested, nestBreaks, nodeSuits, nodeSuitsMark, nodeThere, nodeType, nodeTyped}
-use Rattle.model.specs.Accepted.{rowSuits, rowSuitsMark, rowThere, rowTyped, sameTy, tyNumber, typeBy, typedNode, typedRow}
+use Rattle.model.specs.Accepted.{Accepted, allThere, isReduced, known, localsThere, misnested, nestBreaks, nodeSuits, nodeSuitsMark, nodeThere, nodeType}
+use Rattle.model.specs.Accepted.{nodeTyped, rowSuits, rowSuitsMark, rowThere, rowTyped, sameTy, tyNumber, typeBy, typedNode, typedRow}
+use Rattle.model.specs.Procedures.{keepsProcedures, mostProcedures, openedBefore, opensRightly, owner, procedureRule, usesOwn}
 use Rattle.model.proofs.Nested.{Nested}
+use Rattle.model.proofs.Homes.{opens-is, place-in}
 use Rattle.model.proofs.KindsIn.{PlainNode, PlainRow}
 use Rattle.model.proofs.LoopsClosed.{none-open}
 use Rattle.lists.proofs.BoolLaws.{and-left, and-right}
@@ -67,6 +71,9 @@ RowFits m t ty reducedStore a b c = (a < t .nodes) × (b < t .nodes) × (ty a �
 RowFits m t ty reducedArray a b c = (a < t .decls) × (b < t .nodes) × (ty b ≡ uint) × (typeAt t a ≡ pointer) × (classed m t a ≡ false) × (m ≡ reduced)
 RowFits m t ty classLoop a b c = (b < t .nodes) × (c < t .nodes) × (ty b ≡ uint) × (ty c ≡ uint) × (a < t .decls) × (typeAt t a ≡ uint)
     × (classed m t a ≡ true) × (m ≡ reduced)
+RowFits m t ty procedure a b c = (i : ℕ) → within (stretch a b) i ≡ true → (i < t .decls) × (typeAt t i ≡ uint) × (markedUint t i ≡ false)
+RowFits m t ty returns a b c = (a < t .nodes) × (ty a ≡ uint)
+RowFits m t ty call a b c = (b < t .nodes) × (ty b ≡ uint) × (c < t .decls) × (typeAt t c ≡ uint) × (markedUint t c ≡ false) × (opening t a < t .rows)
 RowFits m t ty noRow a b c = ⊥
 
 -- ---- from Bools
@@ -94,7 +101,7 @@ pointer-unmarked t i e = go (markedUint t i) refl
     go true h = absurd (omega (arith, ap tyNumber (sym e ∙ marked-uint t i h)))
     go false h = h
 
-classed-none : (m : MachineKind) (t : Table) (i : ℕ) → markedUint t i ≡ false → classed m t i ≡ false
+pub classed-none : (m : MachineKind) (t : Table) (i : ℕ) → markedUint t i ≡ false → classed m t i ≡ false
 classed-none plain t i e = refl
 classed-none reduced t i e = e
 
@@ -102,6 +109,17 @@ classed-none reduced t i e = e
 unclassed : (m : MachineKind) (t : Table) (i : ℕ) → not (isReduced m && markedUint t i) ≡ true → classed m t i ≡ false
 unclassed plain t i e = refl
 unclassed reduced t i e = not-true (markedUint t i) e
+
+-- the parts of 17 at a 43
+pub rightly : (t : Table) (r a b : ℕ) → opensRightly t r a b ≡ true
+    → (noneOpen (openAt t r) ≡ true) × (all b (λ i. not (markedUint t (a + i))) ≡ true) × (all b (λ i. eqb (owner t (a + i)) (suc r)) ≡ true)
+rightly t r a b v =
+    let free : Bool = noneOpen (openAt t r) in
+    let unmarked : Bool = all b (λ i. not (markedUint t (a + i))) in
+    let own : Bool = all b (λ i. eqb (owner t (a + i)) (suc r)) in
+    let f = and-right (ltb (openedBefore t r) mostProcedures) (free && (between 1 4 b && (unmarked && own))) v in
+    let h = and-right (between 1 4 b) (unmarked && own) (and-right free (between 1 4 b && (unmarked && own)) f) in
+    (and-left free (between 1 4 b && (unmarked && own)) f, and-left unmarked own h, and-right unmarked own h)
 
 -- ---- which kinds a machine knows
 
@@ -134,17 +152,20 @@ hasRow m loopEnd = true
 hasRow m reducedStore = m
 hasRow m reducedArray = m
 hasRow m classLoop = m
+hasRow m procedure = true
+hasRow m returns = true
+hasRow m call = true
 hasRow m noRow = true
 
 abbrev implies : Bool → Bool → Bool
 implies b c = if b then c else true
 
-has-nodes : (m : MachineKind) → all 43 (λ k. implies (known m k) (hasNode (isReduced m) (nodeKind k))) ≡ true
+has-nodes : (m : MachineKind) → all 46 (λ k. implies (known m k) (hasNode (isReduced m) (nodeKind k))) ≡ true
 unfolding all known nodeKind
 has-nodes plain = refl
 has-nodes reduced = refl
 
-has-rows : (m : MachineKind) → all 43 (λ k. implies (known m k) (hasRow (isReduced m) (rowKind k))) ≡ true
+has-rows : (m : MachineKind) → all 46 (λ k. implies (known m k) (hasRow (isReduced m) (rowKind k))) ≡ true
 unfolding all known rowKind
 has-rows plain = refl
 has-rows reduced = refl
@@ -153,17 +174,17 @@ implied : (b c : Bool) → implies b c ≡ true → b ≡ true → c ≡ true
 implied b c e h = rw h at e
 
 has-node : (m : MachineKind) (k : ℕ) → known m k ≡ true → hasNode (isReduced m) (nodeKind k) ≡ true
-has-node m k h = elim (decLe 43 k) [
+has-node m k h = elim (decLe 46 k) [
   | yes l ↦ rw (no-node k l) refl
   | no l ↦ implied (known m k) (hasNode (isReduced m) (nodeKind k))
-      (all-at 43 (λ k. implies (known m k) (hasNode (isReduced m) (nodeKind k))) (has-nodes m) k (omega arith)) h
+      (all-at 46 (λ k. implies (known m k) (hasNode (isReduced m) (nodeKind k))) (has-nodes m) k (omega arith)) h
 ]
 
 has-row : (m : MachineKind) (k : ℕ) → known m k ≡ true → hasRow (isReduced m) (rowKind k) ≡ true
-has-row m k h = elim (decLe 43 k) [
+has-row m k h = elim (decLe 46 k) [
   | yes l ↦ rw (no-row k l) refl
   | no l ↦ implied (known m k) (hasRow (isReduced m) (rowKind k))
-      (all-at 43 (λ k. implies (known m k) (hasRow (isReduced m) (rowKind k))) (has-rows m) k (omega arith)) h
+      (all-at 46 (λ k. implies (known m k) (hasRow (isReduced m) (rowKind k))) (has-rows m) k (omega arith)) h
 ]
 
 is-plain : (m : MachineKind) → not (isReduced m) ≡ true → m ≡ plain
@@ -248,24 +269,53 @@ module _ (m : MachineKind) (t : Table) (ty : ℕ → Ty) where
       let p = three (sameTy (typeAt t a) uint) (sameTy (ty b) uint) (sameTy (ty c) uint) z in
       (ltb-true b (t .nodes) (h .1), ltb-true c (t .nodes) (h .2), same-ty _ _ (p .1), same-ty _ _ (p .2), ltb-true a (t .decls) (h .0), same-ty _ _ (p .0), u)
 
-  row-fits : (k : Row) (a b c : ℕ) → hasRow (isReduced m) k ≡ true
-      → allThere (rowRoles k) (t .decls) (t .nodes) (record { kind = 0; a = a; b = b; c = c }) ≡ true
-      → typedRow (typeAt t) ty k a b c ≡ true → rowSuits (isReduced m) k (markedUint t a) (markedPointer t a) ≡ true → RowFits m t ty k a b c
+  -- the locals of a 43
+  listed : (a b : ℕ) → (eqb b 0 || leb (a + b) (t .decls)) ≡ true → all b (λ i. sameTy (typeAt t (a + i)) uint) ≡ true
+      → all b (λ i. not (markedUint t (a + i))) ≡ true
+      → (i : ℕ) → within (stretch a b) i ≡ true → (i < t .decls) × (typeAt t i ≡ uint) × (markedUint t i ≡ false)
+  listed a b y z u i w =
+      let p : (a ≤ i) × (i < a + b) = place-in (stretch a b) i w in
+      let j : i - a < b = omega (arith, p .0, p .1) in
+      let e : a + (i - a) ≡ i = omega (arith, p .0) in (
+        omega (arith, p .0, p .1, some (eqb b 0) refl y),
+        subst (λ (k : ℕ). typeAt t k ≡ uint) e (same-ty _ _ (all-at b (λ i. sameTy (typeAt t (a + i)) uint) z (i - a) j)),
+        subst (λ (k : ℕ). markedUint t k ≡ false) e (not-true (markedUint t (a + (i - a))) (all-at b (λ i. not (markedUint t (a + i))) u (i - a) j)),
+      )
+    where
+      some : (d : Bool) → eqb b 0 ≡ d → (d || leb (a + b) (t .decls)) ≡ true → a + b ≤ t .decls
+      some true d h = let p : (a ≤ i) × (i < a + b) = place-in (stretch a b) i w in absurd (omega (arith, p .0, p .1, eqb-true b 0 d))
+      some false d h = leb-true (a + b) (t .decls) h
+
+  row-fits : (r : ℕ) (k : Row) (a b c : ℕ) → hasRow (isReduced m) k ≡ true
+      → allThere (rowRoles k) (t .decls) (t .nodes) (record { kind = 0; a = a; b = b; c = c }) ≡ true → localsThere k (t .decls) a b ≡ true
+      → typedRow (typeAt t) ty k a b c ≡ true → rowSuits (isReduced m) k (markedUint t a) (markedPointer t a) ≡ true
+      → procedureRule t r k a b c ≡ true → RowFits m t ty k a b c
   unfolding rowRoles
-  row-fits skip a b c x y z u = tt
-  row-fits assign a b c x y z u =
+  row-fits r skip a b c x y o z u v = tt
+  row-fits r assign a b c x y o z u v =
       let h = three (ltb a (t .decls)) (ltb b (t .nodes)) true y in
       (ltb-true a (t .decls) (h .0), ltb-true b (t .nodes) (h .1), same-ty _ _ z, classed-none m t a (not-true (markedUint t a) u))
-  row-fits store a b c x y z u = let s = stored a b y z in (s .0, s .1, s .2, s .3, is-plain m x)
-  row-fits assert a b c x y z u = (ltb-true a (t .nodes) (three (ltb a (t .nodes)) true true y .0), same-ty _ _ z)
-  row-fits assume a b c x y z u = (ltb-true a (t .nodes) (three (ltb a (t .nodes)) true true y .0), same-ty _ _ z)
-  row-fits array a b c x y z u = laid-out a b y z
-  row-fits loop a b c x y z u = looped a b c false y z (unclassed m t a u)
-  row-fits loopEnd a b c x y z u = tt
-  row-fits reducedStore a b c x y z u = let s = stored a b y z in (s .0, s .1, s .2, s .3, is-reduced m x)
-  row-fits reducedArray a b c x y z u = let s = laid-out a b y z in (s .0, s .1, s .2, s .3, s .4, is-reduced m x)
-  row-fits classLoop a b c x y z u = let s = looped a b c true y z (classed-is m t a x u) in (s .0, s .1, s .2, s .3, s .4, s .5, s .6, is-reduced m x)
-  row-fits noRow a b c x y z u = false≢true z
+  row-fits r store a b c x y o z u v = let s = stored a b y z in (s .0, s .1, s .2, s .3, is-plain m x)
+  row-fits r assert a b c x y o z u v = (ltb-true a (t .nodes) (three (ltb a (t .nodes)) true true y .0), same-ty _ _ z)
+  row-fits r assume a b c x y o z u v = (ltb-true a (t .nodes) (three (ltb a (t .nodes)) true true y .0), same-ty _ _ z)
+  row-fits r array a b c x y o z u v = laid-out a b y z
+  row-fits r loop a b c x y o z u v = looped a b c false y z (unclassed m t a u)
+  row-fits r loopEnd a b c x y o z u v = tt
+  row-fits r reducedStore a b c x y o z u v = let s = stored a b y z in (s .0, s .1, s .2, s .3, is-reduced m x)
+  row-fits r reducedArray a b c x y o z u v = let s = laid-out a b y z in (s .0, s .1, s .2, s .3, s .4, is-reduced m x)
+  row-fits r classLoop a b c x y o z u v = let s = looped a b c true y z (classed-is m t a x u) in (s .0, s .1, s .2, s .3, s .4, s .5, s .6, is-reduced m x)
+  row-fits r procedure a b c x y o z u v = listed a b o z (rightly t r a b v .1)
+  row-fits r returns a b c x y o z u v = (ltb-true a (t .nodes) (three (ltb a (t .nodes)) true true y .0), same-ty _ _ z)
+  row-fits r call a b c x y o z u v =
+      let h = three true (ltb b (t .nodes)) (ltb c (t .decls)) y in (
+        ltb-true b (t .nodes) (h .1),
+        same-ty _ _ (and-left (sameTy (ty b) uint) (sameTy (typeAt t c) uint) z),
+        ltb-true c (t .decls) (h .2),
+        same-ty _ _ (and-right (sameTy (ty b) uint) (sameTy (typeAt t c) uint) z),
+        not-true (markedUint t c) (and-right (ltb (opening t a) (t .rows)) (not (markedUint t c)) v),
+        ltb-true _ _ (and-left (ltb (opening t a) (t .rows)) (not (markedUint t c)) v),
+      )
+  row-fits r noRow a b c x y o z u v = false≢true z
 
 -- ---- of an accepted table
 
@@ -281,6 +331,10 @@ closed-is opens os true h e = h
 closed-is opens os false h e = refl
 closed-is closes os d h e = absurd (let z : _≡_ {A = ℕ} 0 1 = cc in omega arith)
 closed-is neither os d h e = absurd (let z : _≡_ {A = ℕ} 0 1 = cc in omega arith)
+
+none-is : (os : List ℕ) → noneOpen os ≡ true → os ≡ []
+none-is [] e = refl
+none-is (o ∷ os) e = absurd (false≢true e)
 
 module _ (m : MachineKind) (t : Table) (A : Accepted m t) where
   -- a line past the end is no line
@@ -311,12 +365,35 @@ module _ (m : MachineKind) (t : Table) (A : Accepted m t) where
       (all-at (t .nodes) (nodeThere t) (A .nodesThere) n h) (all-at (t .nodes) (nodeTyped t) (A .nodesTyped) n h)
           (all-at (t .nodes) (nodeSuitsMark m t) (A .nodesSuit) n h)
 
+  -- 17: what it uses, and by its kind
+  keeps-17 : (r : ℕ) → r < t .rows
+      → (usesOwn t r ≡ true) × (procedureRule t r (rowKind (rowAt t r .kind)) (rowAt t r .a) (rowAt t r .b) (rowAt t r .c) ≡ true)
+  unfolding keepsProcedures
+  keeps-17 r h =
+      let rule : Bool = procedureRule t r (rowKind (rowAt t r .kind)) (rowAt t r .a) (rowAt t r .b) (rowAt t r .c) in
+      let k = all-at (t .rows) (keepsProcedures t) (A .procedures) r h in
+      (and-left (usesOwn t r) rule k, and-right (usesOwn t r) rule k)
+
+  pub row-uses : (r : ℕ) → r < t .rows → usesOwn t r ≡ true
+  row-uses r h = keeps-17 r h .0
+
+  pub row-rule : (r : ℕ) → r < t .rows → procedureRule t r (rowKind (rowAt t r .kind)) (rowAt t r .a) (rowAt t r .b) (rowAt t r .c) ≡ true
+  row-rule r h = keeps-17 r h .1
+
+  -- a row that opens a procedure
+  pub opens-rightly : (r : ℕ) → r < t .rows → isOpening t r ≡ true → opensRightly t r (rowAt t r .a) (rowAt t r .b) ≡ true
+  opens-rightly r h e =
+      subst (λ k. procedureRule t r k (rowAt t r .a) (rowAt t r .b) (rowAt t r .c) ≡ true) (opens-is (rowKind (rowAt t r .kind)) e) (row-rule r h)
+
   pub rows-fit : (r : ℕ) → r < t .rows → RowFits m t (nodeType t) (rowKind (rowAt t r .kind)) (rowAt t r .a) (rowAt t r .b) (rowAt t r .c)
   unfolding rowThere rowTyped rowSuitsMark
   rows-fit r h =
-      row-fits m t (nodeType t) (rowKind (rowAt t r .kind)) (rowAt t r .a) (rowAt t r .b) (rowAt t r .c) (line-row (t .decls + t .nodes + r))
-      (all-at (t .rows) (rowThere t) (A .rowsThere) r h) (all-at (t .rows) (rowTyped t) (A .rowsTyped) r h)
-          (all-at (t .rows) (rowSuitsMark m t) (A .rowsSuit) r h)
+      let y = all-at (t .rows) (rowThere t) (A .rowsThere) r h in
+      let operands : Bool = allThere (rowRoles (rowKind (rowAt t r .kind))) (t .decls) (t .nodes) (rowAt t r) in
+      let locals : Bool = localsThere (rowKind (rowAt t r .kind)) (t .decls) (rowAt t r .a) (rowAt t r .b) in
+      row-fits m t (nodeType t) r (rowKind (rowAt t r .kind)) (rowAt t r .a) (rowAt t r .b) (rowAt t r .c) (line-row (t .decls + t .nodes + r))
+      (and-left operands locals y) (and-right operands locals y) (all-at (t .rows) (rowTyped t) (A .rowsTyped) r h)
+          (all-at (t .rows) (rowSuitsMark m t) (A .rowsSuit) r h) (row-rule r h)
 
   row-nested : (r : ℕ) → r < t .rows → nestBreaks (nestAt t r) (openAt t r) (leb (t .rows) (matchingEnd t r)) ≡ false
   unfolding misnested
@@ -326,6 +403,7 @@ module _ (m : MachineKind) (t : Table) (A : Accepted m t) where
   is-nested = record {
     closed = none-open t (λ r h e. leb-false (t .rows) (matchingEnd t r) (closed-is (nestAt t r) (openAt t r) _ (row-nested r h) e));
     some = λ r h e. some-is (nestAt t r) (openAt t r) _ (row-nested r h) e;
+    apart = λ r h e. none-is (openAt t r) (rightly t r (rowAt t r .a) (rowAt t r .b) (opens-rightly r h e) .0);
   }
 
 -- ---- of an accepted plain table, at every number
@@ -348,28 +426,32 @@ plain-node reducedValid h = false≢true h
 plain-node noNode h = tt
 
 plain-row : (t : Table) (ty : ℕ → Ty) (k : Row) (a b c : ℕ) → hasRow false k ≡ true → typedRow (typeAt t) ty k a b c ≡ true
-    → rowSuits false k (markedUint t a) (markedPointer t a) ≡ true → PlainRow t k a
-plain-row t ty skip a b c h z u = tt
-plain-row t ty assign a b c h z u = not-true (markedUint t a) u
-plain-row t ty store a b c h z u = tt
-plain-row t ty assert a b c h z u = tt
-plain-row t ty assume a b c h z u = tt
-plain-row t ty array a b c h z u = pointer-unmarked t a (same-ty _ _ (and-left (sameTy (typeAt t a) pointer) (sameTy (ty b) uint) z))
-plain-row t ty loop a b c h z u = tt
-plain-row t ty loopEnd a b c h z u = tt
-plain-row t ty reducedStore a b c h z u = false≢true h
-plain-row t ty reducedArray a b c h z u = false≢true h
-plain-row t ty classLoop a b c h z u = false≢true h
-plain-row t ty noRow a b c h z u = tt
+    → rowSuits false k (markedUint t a) (markedPointer t a) ≡ true → RowFits plain t ty k a b c → PlainRow t k a b c
+plain-row t ty skip a b c h z u f = tt
+plain-row t ty assign a b c h z u f = not-true (markedUint t a) u
+plain-row t ty store a b c h z u f = tt
+plain-row t ty assert a b c h z u f = tt
+plain-row t ty assume a b c h z u f = tt
+plain-row t ty array a b c h z u f = pointer-unmarked t a (same-ty _ _ (and-left (sameTy (typeAt t a) pointer) (sameTy (ty b) uint) z))
+plain-row t ty loop a b c h z u f = tt
+plain-row t ty loopEnd a b c h z u f = tt
+plain-row t ty reducedStore a b c h z u f = false≢true h
+plain-row t ty reducedArray a b c h z u f = false≢true h
+plain-row t ty classLoop a b c h z u f = false≢true h
+plain-row t ty procedure a b c h z u f = λ i w. f i w .2
+plain-row t ty returns a b c h z u f = tt
+plain-row t ty call a b c h z u f = f .4
+plain-row t ty noRow a b c h z u f = tt
 
 module _ (t : Table) (A : Accepted plain t) where
   pub plain-nodes : (n : ℕ) → PlainNode (nodeKind (nodeAt t n .kind))
   plain-nodes n = plain-node (nodeKind (nodeAt t n .kind)) (line-node plain t A (t .decls + n))
 
-  pub plain-rows : (r : ℕ) → PlainRow t (rowKind (rowAt t r .kind)) (rowAt t r .a)
+  pub plain-rows : (r : ℕ) → PlainRow t (rowKind (rowAt t r .kind)) (rowAt t r .a) (rowAt t r .b) (rowAt t r .c)
   unfolding rowTyped rowSuitsMark rowKind
   plain-rows r = elim (decLe (t .rows) r) [
     | yes h ↦ rw (no-line plain t A (t .decls + t .nodes + r) (omega arith)) tt
     | no h ↦ plain-row t (nodeType t) (rowKind (rowAt t r .kind)) (rowAt t r .a) (rowAt t r .b) (rowAt t r .c) (line-row plain t A (t .decls + t .nodes + r))
         (all-at (t .rows) (rowTyped t) (A .rowsTyped) r (omega arith)) (all-at (t .rows) (rowSuitsMark plain t) (A .rowsSuit) r (omega arith))
+        (rows-fit plain t A r (omega arith))
   ]

@@ -20,7 +20,7 @@ use Rattle.model.specs.Step.Report.{ended, noEnd}
 use Rattle.model.specs.Writer.{heldNext, stepChoices, withNumbers, writer, written}
 use Rattle.model.specs.Accepted.{Accepted, CanHave}
 use Rattle.model.proofs.Safe.{Held, leaves-plain}
-use Rattle.model.proofs.SafeStep.{MoveOk, going, safe-step}
+use Rattle.model.proofs.SafeStep.{MoveOk, safe-step}
 
 numbers-twice : (xs ys : List ℕ) (r : Report) → withNumbers xs (withNumbers ys r) ≡ withNumbers (xs ++ ys) r
 numbers-twice xs ys (ended e n s l) = ap (ended e n s) (sym (append-assoc xs ys l))
@@ -56,7 +56,7 @@ pub record FullFrom (ps : List ℕ) (t : Table) (k n : ℕ) (ks : List Bool) (p 
 
 module _ (ps : List ℕ) (t : Table) (A : Accepted plain t) where
   plain-step : (p : State) → CanHave [] plain t p → finished t p ≡ false → Plain t (step [] t p [])
-  plain-step p C e = plain-out t (step [] t p []) (safe-step [] plain t A p C (going t p e) .held [])
+  plain-step p C e = plain-out t (step [] t p []) (safe-step [] plain t A p C e .held [])
 
   pub write-fits : (k n : ℕ) (ks : List Bool) (p : State) → CanHave [] plain t p → (room : ℕ) → length (written ps t k ks p) ≤ room
       → writer ps t k n ks p room ≡ withNumbers (written ps t k ks p) (run [] t k n p [])

@@ -9,7 +9,10 @@ pub mod Step
 pub mod Reduce
 pub mod Agree
 pub mod Writer
+pub mod Procedures
 pub mod Accepted
 pub mod Demand3
 pub mod EmptyClasses
+pub mod IdleLocals
+pub mod MainEnd
 pub mod Reasons

@@ -42,7 +42,7 @@ line-said t l cells f a report r h e =
     let got : Report = reportOf t f l (a .ran) cells in
     let said = reported (a .verdict) cells got report (a .ran .used) (choicesUsed l report) e in
     ap lineOf h
-    ∙ ap (line (endOf (a .ran .end)) (a .ran .machine .row) (a .ran .steps)) (said .1 ∙ ap (choicesUsed l) (sym (said .0)))
+    ∙ ap (line (endOf (a .ran .end)) (a .ran .«record» .machine .row) (a .ran .steps)) (said .1 ∙ ap (choicesUsed l) (sym (said .0)))
     ∙ ap (lineSaid l) (said .0)
 
 -- the plain run, in cells of the stated size

@@ -19,7 +19,7 @@ use Rattle.model.specs.Class.{pair}
 use Rattle.model.specs.State.MachineKind.{plain}
 use Rattle.model.specs.State.{State}
 use Rattle.model.specs.Step.{End, Report}
-use Rattle.model.specs.Step.End.{done, assertFalse, assumeFalse, failed, wantOfCells, outOfSteps, choiceNotAllowed, noChoiceLeft, listFull}
+use Rattle.model.specs.Step.End.{done, assertFalse, assumeFalse, failed, wantOfCells, outOfSteps, choiceNotAllowed, noChoiceLeft, listFull, tooDeep}
 use Rattle.model.specs.Step.Report.{ended, noEnd}
 use Rattle.model.specs.Writer.{withNumbers}
 use Rattle.model.specs.Reduce.{reduce}
@@ -30,7 +30,7 @@ use denote.Enum.Declared.{tagOf}
 use Rattle.machine.specs.View.{endOf, stateOf}
 use Rattle.evaluators.specs.Reasons.{reasonOf}
 use Rattle.machine.specs.declared.End.{End as CodeEnd}
-use Rattle.machine.specs.declared.End.the-variants.{Done, AssertFalse, AssumeFalse, Fail, WantOfCells, OutOfSteps, ChoiceNotAllowed, NoChoiceLeft, ListFull}
+use Rattle.machine.specs.declared.End.the-variants.{Done, AssertFalse, AssumeFalse, Fail, WantOfCells, OutOfSteps, ChoiceNotAllowed, NoChoiceLeft, ListFull, TooDeep}
 use Rattle.machine.proofs.End.{the-type as code-end}
 use Rattle.choices.proofs.Demand3Proof.{places-accepted}
 use Rattle.runs.specs.declared.Ran.{Ran}
@@ -80,7 +80,7 @@ pub record Passed (t : List ℕ) (c1 c2 limit : ℕ) (list : List ℕ) (ran : Ra
   pub places : placesCheck (pair c1 c2) ≡ Passes
   pub fits : ran .used ≤ length list
   pub counted : take (ran .used) list ≡ writtenChoices (pair c1 c2) limit t
-  pub wrote : (last : State) × (last .here .row ≡ ran .machine .row)
+  pub wrote : (last : State) × (last .here .row ≡ ran .«record» .machine .row)
       × (ended (endOf (ran .end)) (ran .steps) last (take (ran .used) list) ≡ writerRun (pair c1 c2) t limit 8192)
 
 -- an answer of the writer, which was lent cells of the stated size and a list of 8,192 words
@@ -119,7 +119,7 @@ module _ (t : List ℕ) (c1 c2 limit : ℕ) (cells cells′ lent list : List ℕ
           places = both .1;
           fits = omega (numbers, wrote .0, ap length (wrote .1), length-append written (drop (length written) lent));
           counted = ap (take (a .ran .used)) (wrote .1) ∙ take-at written (drop (length written) lent) (a .ran .used) (sym (wrote .0));
-          wrote = (stateOf t (frameOf t false c1 c2) (a .ran .machine) cells′, refl, wrote .2);
+          wrote = (stateOf t (frameOf t false c1 c2) (a .ran .«record») cells′, refl, wrote .2);
         }
 
 -- ---- the plain run's line, from what the writer handed back
@@ -150,6 +150,7 @@ isFull outOfSteps = false
 isFull choiceNotAllowed = false
 isFull noChoiceLeft = false
 isFull listFull = true
+isFull tooDeep = false
 
 full-is : (e : End) → isFull e ≡ true → e ≡ listFull
 full-is done h = absurd (false≢true h)
@@ -161,6 +162,7 @@ full-is outOfSteps h = absurd (false≢true h)
 full-is choiceNotAllowed h = absurd (false≢true h)
 full-is noChoiceLeft h = absurd (false≢true h)
 full-is listFull h = refl
+full-is tooDeep h = absurd (false≢true h)
 
 differs : (e : End) → isFull e ≡ false → e ≢ listFull
 differs e h q = false≢true (sym h ∙ ap isFull q)
@@ -170,11 +172,11 @@ module _ {t : List ℕ} {limit : ℕ} {ran : Ran} (r : Line) where
   pub line-full : ran .end ≡ ListFull → lineOf r ≡ lineSaid [] (plainRun t limit) → PlainOf t limit ran r
   line-full e q = record { full = λ h. q; other = λ h. absurd (h (ap endOf e)) }
 
-  pub line-other : OneOf (0 ∷ 1 ∷ 2 ∷ 3 ∷ 4 ∷ 5 ∷ 6 ∷ 7 ∷ []) (tagOf code-end (ran .end))
-      → lineOf r ≡ line (endOf (ran .end)) (ran .machine .row) (ran .steps) 0 → PlainOf t limit ran r
+  pub line-other : OneOf (0 ∷ 1 ∷ 2 ∷ 3 ∷ 4 ∷ 5 ∷ 6 ∷ 7 ∷ 9 ∷ []) (tagOf code-end (ran .end))
+      → lineOf r ≡ line (endOf (ran .end)) (ran .«record» .machine .row) (ran .steps) 0 → PlainOf t limit ran r
   line-other h q = record { full = λ e. absurd (other (ran .end) h e); other = λ h. q }
     where
-      other : (e : CodeEnd) → OneOf (0 ∷ 1 ∷ 2 ∷ 3 ∷ 4 ∷ 5 ∷ 6 ∷ 7 ∷ []) (tagOf code-end e) → endOf e ≢ listFull
+      other : (e : CodeEnd) → OneOf (0 ∷ 1 ∷ 2 ∷ 3 ∷ 4 ∷ 5 ∷ 6 ∷ 7 ∷ 9 ∷ []) (tagOf code-end e) → endOf e ≢ listFull
       other Done h e = differs done refl e
       other AssertFalse h e = differs assertFalse refl e
       other AssumeFalse h e = differs assumeFalse refl e
@@ -183,7 +185,8 @@ module _ {t : List ℕ} {limit : ℕ} {ran : Ran} (r : Line) where
       other OutOfSteps h e = differs outOfSteps refl e
       other ChoiceNotAllowed h e = differs choiceNotAllowed refl e
       other NoChoiceLeft h e = differs noChoiceLeft refl e
-      other ListFull h e = miss (0 ∷ 1 ∷ 2 ∷ 3 ∷ 4 ∷ 5 ∷ 6 ∷ 7 ∷ []) 8 tt h
+      other ListFull h e = miss (0 ∷ 1 ∷ 2 ∷ 3 ∷ 4 ∷ 5 ∷ 6 ∷ 7 ∷ 9 ∷ []) 8 tt h
+      other TooDeep h e = differs tooDeep refl e
 
 module _ {t : List ℕ} {c1 c2 limit : ℕ} {list : List ℕ} {ran : Ran} (P : Passed t c1 c2 limit list ran) where
   abbrev ps : List ℕ
@@ -193,7 +196,7 @@ module _ {t : List ℕ} {c1 c2 limit : ℕ} {list : List ℕ} {ran : Ran} (P : P
   demanded = demand-3 ps (places-accepted ps (P .places)) t (accepted plain t (passing plain t (P .table)))
 
   -- the writer's run is the plain one, unless its list was full
-  writer-line : endOf (ran .end) ≢ listFull → line (endOf (ran .end)) (ran .machine .row) (ran .steps) 0 ≡ lineSaid [] (plainRun t limit)
+  writer-line : endOf (ran .end) ≢ listFull → line (endOf (ran .end)) (ran .«record» .machine .row) (ran .steps) 0 ≡ lineSaid [] (plainRun t limit)
   writer-line h = elim (decLe (length (choiceList ps t limit)) 8192) [
     | yes k ↦
         ap (λ (r : ℕ). line (endOf (ran .end)) r (ran .steps) 0) (sym (P .wrote .1))

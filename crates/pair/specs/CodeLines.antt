@@ -14,4 +14,4 @@ use Rattle.pair.specs.Pairs.LineSaid.{line}
 -- the line r is what the writer handed back, unless its list was full; then it is the plain run's own
 pub record PlainOf (t : List ℕ) (limit : ℕ) (ran : Ran) (r : Line) : Type 0 where
   pub full : endOf (ran .end) ≡ listFull → lineOf r ≡ lineSaid [] (plainRun t limit)
-  pub other : endOf (ran .end) ≢ listFull → lineOf r ≡ line (endOf (ran .end)) (ran .machine .row) (ran .steps) 0
+  pub other : endOf (ran .end) ≢ listFull → lineOf r ≡ line (endOf (ran .end)) (ran .«record» .machine .row) (ran .steps) 0

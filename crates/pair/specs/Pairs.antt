@@ -41,7 +41,7 @@ saidBy (Refused number place) said = refusal number place
 
 -- the code's line of a run that handed this back
 abbrev pub lineFrom : Ran → Line
-lineFrom ran = record { end = ran .end; row = ran .machine .row; steps = ran .steps; used = ran .used }
+lineFrom ran = record { end = ran .end; row = ran .«record» .machine .row; steps = ran .steps; used = ran .used }
 
 -- a line and an answer of the code
 abbrev pub lineOf : Line → LineSaid

@@ -26,7 +26,8 @@ fn line_of(ran: Ran) -> Line
     ensures { λ r. ⌜ r ≡ lineFrom ran ⌝ }
 {
     let end = ran.end;
-    let machine = ran.machine;
+    let record = ran.record;
+    let machine = record.machine;
     Line {
         end,
         row: machine.row,

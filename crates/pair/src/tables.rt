@@ -31,7 +31,8 @@ fn plain_of(t: &[u32], ran: Ran, limit: u32) -> Line
     ensures { λ r. ⌜ PlainOf (now (t .entry)) limit ran r ⌝ }
 {
     let end = ran.end;
-    let machine = ran.machine;
+    let record = ran.record;
+    let machine = record.machine;
     let End::ListFull = end else {
         return Line {
             end,

@@ -11,7 +11,7 @@ use lib.ListN.{length, getD, set, length-set}
 use lib.Seq.{getD-set-same, getD-set-other}
 use borrow.Author.Tests.{ne-eqb}
 use Rattle.lists.specs.If.{if_then_else_}
-use Rattle.table.specs.Checks.{machineOf}
+use Rattle.kinds.specs.Kinds.{machineOf}
 use Rattle.model.specs.Table.{typeOf, marked, markedUint}
 use Rattle.model.specs.State.{classed}
 use Rattle.prepared.specs.declared.Frame.{Frame}

@@ -5,52 +5,25 @@ use native.Mathlib.Omega.{arith}
 use native.Mathlib.Decide.{decLe}
 use mathlib.Core.Path.{_≡_, refl, sym, ap, _∙_}
 use mathlib.Core.Logic.{_≢_}
-use mathlib.Core.List.{List, _++_}
-use lib.ListN.{length, getD, set, take, drop, replicate, length-set, length-drop, length-replicate, List·getD-append, List·getD-eq-default}
-use lib.Seq.{paste, length-paste, length-paste-head, drop-paste, length-take-le, take-all, getD-take, getD-drop, getD-append-add, getD-set-same, getD-set-other}
-use Rattle.table.specs.Code.{InSorts}
+use mathlib.Core.List.{List}
+use lib.ListN.{length, getD, set, take, drop, replicate, length-set, length-drop, length-replicate, List·getD-eq-default}
+use lib.Seq.{paste, length-paste, getD-drop, getD-set-same, getD-set-other}
+use Rattle.kinds.specs.Code.{InSorts}
 use Rattle.model.specs.Table.{lineAt}
 use Rattle.prepared.specs.declared.Frame.{Frame}
 use Rattle.prepared.specs.View.{tableFor}
 use Rattle.prepared.specs.Own.{Own, nodesAt, rowsAt, ownWords, flagOf}
 use Rattle.prepared.specs.CodeOwn.{copied, told, Formed}
-
--- ---- numbers pasted into a list: what stands before them, among them and after them
-module _ (l : List ℕ) (at : ℕ) (s : List ℕ) (n : ℕ) (fits : at + n ≤ length l) (has : n ≤ length s) where
-  short : at ≤ length l
-  short = omega arith
-
-  paste-before : (i : ℕ) → i < at → getD (paste l at s n) i 0 ≡ getD l i 0
-  paste-before i h =
-      let small : i < length (take at l ++ take n s) = rw (length-paste-head l at s n short has) (omega arith) in
-      let inside : i < length (take at l) = rw (length-take-le at l short) h in
-      List·getD-append (take at l ++ take n s) (drop (at + n) l) 0 i small ∙ List·getD-append (take at l) (take n s) 0 i inside ∙ getD-take at l i 0 h
-
-  paste-in : (j : ℕ) → j < n → getD (paste l at s n) (at + j) 0 ≡ getD s j 0
-  paste-in j h =
-      let small : at + j < length (take at l ++ take n s) = rw (length-paste-head l at s n short has) (omega arith) in
-      List·getD-append (take at l ++ take n s) (drop (at + n) l) 0 (at + j) small
-      ∙ ap (λ (k : ℕ). getD (take at l ++ take n s) (k + j) 0) (sym (length-take-le at l short))
-      ∙ getD-append-add (take at l) (take n s) j 0 ∙ getD-take n s j 0 h
-
-  paste-after : (i : ℕ) → at + n ≤ i → getD (paste l at s n) i 0 ≡ getD l i 0
-  paste-after i h =
-      let split : i ≡ at + n + (i - (at + n)) = omega arith in
-      ap (λ (k : ℕ). getD (paste l at s n) k 0) split ∙ sym (getD-drop (at + n) (paste l at s n) (i - (at + n)) 0)
-      ∙ ap (λ (x : List ℕ). getD x (i - (at + n)) 0) (drop-paste l at s n short has)
-      ∙ getD-drop (at + n) l (i - (at + n)) 0 ∙ ap (λ (k : ℕ). getD l k 0) (sym split)
+use Rattle.prepared.proofs.PasteLaws.{paste-before, paste-in, paste-after, take-rest}
 
 -- ---- the copies, one after another
-rest : (t : List ℕ) (k : ℕ) → take (length t - k) (drop k t) ≡ drop k t
-rest t k = let all : length (drop k t) ≤ length t - k = simp length-drop (omega arith) in take-all (length t - k) (drop k t) all
-
 pub copies-made : (t : List ℕ) (f : Frame) (own : List ℕ) {one two three : List ℕ} → one ≡ paste own 0 t (4 * f .counts .decls)
     → two ≡ paste one nodesAt (take (length t - 4 * f .counts .decls) (drop (4 * f .counts .decls) t)) (4 * f .counts .nodes)
     → three ≡ paste two rowsAt
         (take (length t - 4 * (f .counts .decls + f .counts .nodes)) (drop (4 * (f .counts .decls + f .counts .nodes)) t)) (4 * f .counts .rows)
     → three ≡ copied t f own
 unfolding copied
-copies-made t f own e1 e2 e3 = rw (e3, e2, e1) (simp rest)
+copies-made t f own e1 e2 e3 = rw (e3, e2, e1) (simp take-rest)
 
 -- ---- what stands at each word of the lines copied: d declarations, n nodes and r rows
 record Lines (t : List ℕ) (d n r : ℕ) (l : List ℕ) : Type 0 where

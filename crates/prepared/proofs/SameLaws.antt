@@ -7,25 +7,29 @@ use mathlib.Core.Path.{_≡_, refl, sym, ap, _∙_, fun-ext}
 use mathlib.Core.Bool.{Bool, true, false}
 use mathlib.Core.List.{List, [], _∷_}
 use lib.ListN.{length, getD, List·getD-eq-default}
-use lib.Dec.{ltb, eqb}
+use lib.Dec.{ltb, leb, eqb}
 use borrow.Author.Tests.{ltb-true, leb-true, lt-ltb, le-ltb, ne-eqb}
 use Rattle.lists.specs.If.{if_then_else_}
 use Rattle.lists.specs.First.{walk}
 use Rattle.lists.proofs.TabLaws.{same-tab, all-at}
 use Rattle.lists.proofs.BoolLaws.{and-left}
-use Rattle.table.specs.Code.{InSorts}
-use Rattle.table.specs.Checks.{machineOf}
+use Rattle.kinds.specs.Code.{InSorts}
+use Rattle.kinds.specs.Kinds.{machineOf}
 use Rattle.model.specs.Class.{pair}
 use Rattle.model.specs.Table.{Table, Line, Ty, Node, Row, Nest, nodeAt, rowAt, typeOf, typeAt, marked, markedUint, markedPointer, nodeKind, rowKind}
-use Rattle.model.specs.Table.{rowRoles, nestOf, nestAt, scanned, matchingEnd}
+use Rattle.model.specs.Table.{rowRoles, nestOf, nestAt, scanned, matchingEnd, isOpening, opensProcedure, atEnd, home, counted, opening, Stretch, stretch}
+use Rattle.model.specs.Table.{localsOf, localsAt}
 use Rattle.model.specs.Table.Ty.{bool, uint, pointer}
 use Rattle.model.specs.Table.Node.{variable, uintConstant, boolConstant, cell, plus, minus, less, atMost, equal, conditional, valid, classVariable}
 use Rattle.model.specs.Table.Node.{reducedCell, reducedValid, noNode}
-use Rattle.model.specs.Table.Row.{skip, assign, store, assert, assume, array, loop, loopEnd, reducedStore, reducedArray, classLoop, noRow}
+use Rattle.model.specs.Table.Row.{skip, assign, store, assert, assume, array, loop, loopEnd, reducedStore, reducedArray, classLoop}
+use Rattle.model.specs.Table.Row.{procedure, returns, call, noRow}
 use Rattle.model.specs.Work.{Work, _>>=_, give, wrong}
-use Rattle.model.specs.State.{MachineKind, Loop, State, placesIn}
+use Rattle.model.specs.State.{MachineKind, Loop, position, Caller, caller, mostCallers, State, placesIn}
 use Rattle.model.specs.Eval.{Contents, contentsOf, Of, nextStart, below, rule, present, evalF, eval}
-use Rattle.model.specs.Step.{Move, withLoops, loopAt, repeatLoop, rowRule, stepAt, step}
+use Rattle.model.specs.Step.{Move, withLoops, numbersIn, handOver, withWork, argument, callProcedure, giveBack, loopAt, repeatLoop, rowRule, stepAt, step}
+use Rattle.model.specs.Step.Move.{to, stop}
+use Rattle.model.specs.Step.End.{tooDeep}
 use Rattle.model.specs.Writer.{given, choicesRule, choicesF, nodeChoices, loopChoices, repeatChoices, rowChoices, stepChoices}
 use Rattle.model.specs.Accepted.{Accepted, allThere, rowThere}
 use Rattle.prepared.specs.declared.Frame.{Frame}
@@ -72,6 +76,16 @@ under-same {A} other n e g h = fun-ext λ w. fun-ext λ m. go w m (ltb m n) refl
     go : (w : Ty) (m : ℕ) (b : Bool) → ltb m n ≡ b → under {A = A} other n e w m ≡ under {A = A} other n g w m
     go w m true q = rw q (h w m (ltb-true m n q))
     go w m false q = rw q
+
+-- a call, by the locals of each row, the 43 of the procedure and the row count
+abbrev calling : (ℕ → Stretch) → ℕ → ℕ → State → ℕ → Work Move
+calling localsAt o n s x =
+    if leb mostCallers (length (s .callers))
+    then give (stop tooDeep)
+    else (do
+      q ← if ltb o n then give (suc o) else wrong
+      vs ← handOver (s .vars) (localsAt (s .here .row)) (localsAt q) (argument x)
+      give (to (withWork s (position q []) (caller (s .here) (numbersIn (s .vars) (localsAt (s .here .row))) ∷ s .callers) vs)))
 
 module _ (t : List ℕ) (f : Frame) (own : List ℕ) (S : InSorts (tableFor t f)) (O : Own t f own) where
   abbrev table : Table
@@ -184,6 +198,43 @@ module _ (t : List ℕ) (f : Frame) (own : List ℕ) (S : InSorts (tableFor t f)
   same-end r =
       ap (λ (m : ℕ → Nest). walk (λ i rest. scanned (m i) i rest) (λ d. rowsOf own) (suc r) (rowsOf own - suc r) 0) (fun-ext own-nest)
       ∙ ap (λ (n : ℕ). walk (λ i rest. scanned (nestAt table i) i rest) (λ d. n) (suc r) (n - suc r) 0) (O .rows)
+
+  -- ---- procedures: where a row belongs, with its locals, and where each opens
+  same-opens : (r : ℕ) → isOpening copy r ≡ isOpening table r
+  same-opens r = ap (λ (l : Line). opensProcedure (rowKind (l .kind))) (same-line r)
+
+  same-at-end : (r : ℕ) → atEnd copy r ≡ atEnd table r
+  unfolding atEnd
+  same-at-end r = rw (O .rows, same-opens r)
+
+  same-home : (r : ℕ) → home copy r ≡ home table r
+  unfolding home
+  same-home zero = refl
+  same-home (suc r) = rw (same-opens r, same-home r)
+
+  same-opening : (k : ℕ) → opening copy k ≡ opening table k
+  unfolding opening
+  same-opening k =
+      ap (λ (m : ℕ → Bool). walk (λ i rest. counted (m i) i rest) (λ k. rowsOf own) 0 (rowsOf own) k) (fun-ext same-opens)
+      ∙ ap (λ (n : ℕ). walk (λ i rest. counted (isOpening table i) i rest) (λ k. n) 0 n k) (O .rows)
+
+  same-locals-of : (q : ℕ) → localsOf copy q ≡ localsOf table q
+  same-locals-of zero = refl
+  same-locals-of (suc r) = ap (λ (l : Line). stretch (l .a) (l .b)) (same-line r)
+
+  same-locals : (r : ℕ) → localsAt copy r ≡ localsAt table r
+  same-locals r = same-locals-of (home copy r) ∙ ap (localsOf table) (same-home r)
+
+  same-call : (s : State) (k x : ℕ) → callProcedure copy s k x ≡ callProcedure table s k x
+  same-call s k x =
+      ap (λ (l : ℕ → Stretch). calling l (opening copy k) (rowsOf own) s x) (fun-ext same-locals)
+      ∙ ap (λ (o : ℕ). calling (localsAt table) o (rowsOf own) s x) (same-opening k)
+      ∙ ap (λ (n : ℕ). calling (localsAt table) (opening table k) n s x) (O .rows)
+
+  same-back : (s : State) (cs : List Caller) (x : ℕ) → giveBack copy s cs x ≡ giveBack table s cs x
+  same-back s [] x = refl
+  same-back s (c ∷ cs) x =
+      rw (same-locals (s .here .row), same-locals (c .here .row)) (rw (ap (λ (l : Line). l .c) (same-line (c .here .row))))
 
   -- ---- nodes worked out
   module _ (ps : List ℕ) (s : Contents) where
@@ -298,6 +349,9 @@ module _ (t : List ℕ) (f : Frame) (own : List ℕ) (S : InSorts (tableFor t f)
     same-row-choices n reducedStore l h = refl
     same-row-choices n reducedArray l h = refl
     same-row-choices n classLoop l h = refl
+    same-row-choices n procedure l h = refl
+    same-row-choices n returns l h = same-node-choices uint (l .a)
+    same-row-choices n call l h = same-node-choices uint (l .b)
     same-row-choices n noRow l h = refl
 
   -- ---- a row's rule
@@ -314,6 +368,9 @@ module _ (t : List ℕ) (f : Frame) (own : List ℕ) (S : InSorts (tableFor t f)
     same-loop z r reducedStore x y out = refl
     same-loop z r reducedArray x y out = refl
     same-loop z r classLoop x y out = rw (same-variable r)
+    same-loop z r procedure x y out = refl
+    same-loop z r returns x y out = refl
+    same-loop z r call x y out = refl
     same-loop z r noRow x y out = refl
 
     same-repeat : (ls : List Loop) → repeatLoop ps copy s ls ≡ repeatLoop ps table s ls
@@ -339,25 +396,63 @@ module _ (t : List ℕ) (f : Frame) (own : List ℕ) (S : InSorts (tableFor t f)
     same-rule n reducedStore l h = rw (same-node ps (contentsOf s) pointer (l .a), same-node ps (contentsOf s) uint (l .b))
     same-rule n reducedArray l h = rw (same-node ps (contentsOf s) uint (l .b))
     same-rule n classLoop l h = rw (same-node ps (contentsOf s) uint (l .b), same-node ps (contentsOf s) uint (l .c), same-end n, O .rows, same-variable n)
+    same-rule n procedure l h = refl
+    same-rule n returns l h = rw (same-node ps (contentsOf s) uint (l .a)) (ap (λ k. below nodes (eval ps (contentsOf s) table) uint (l .a) >>= k)
+        (fun-ext λ x. same-back s (s .callers) x))
+    same-rule n call l h = rw (same-node ps (contentsOf s) uint (l .b)) (ap (λ k. below nodes (eval ps (contentsOf s) table) uint (l .b) >>= k)
+        (fun-ext λ x. same-call s (l .a) x))
     same-rule n noRow l h = refl
 
   -- ---- a step
   module _ (m : MachineKind) (A : Accepted m (tableFor t f)) where
     row-there : (r : ℕ) → r < f .counts .rows → allThere (rowRoles (rowKind (rowAt table r .kind))) decls nodes (rowAt table r) ≡ true
     unfolding rowThere
-    row-there r h = all-at (f .counts .rows) (rowThere table) (A .rowsThere) r h
+    row-there r h = and-left _ _ (all-at (f .counts .rows) (rowThere table) (A .rowsThere) r h)
+
+    -- past an end a step is a return, and else its row is there
+    same-step : (ps : List ℕ) (s : State) (cs : List ℕ) → step ps copy s cs ≡ step ps table s cs
+    unfolding step stepAt atEnd
+    same-step ps s cs = rw (same-at-end (s .here .row)) (go (ltb (s .here .row) (f .counts .rows)) refl)
+      where
+        ruled : Table → Line → Work Move
+        ruled t l = rowRule ps t s (s .here .row) (rowKind (l .kind)) (l .a) (l .b) (l .c)
+
+        go : (b : Bool) → ltb (s .here .row) (f .counts .rows) ≡ b
+            → (if atEnd table (s .here .row) then giveBack copy s (s .callers) 0 else ruled copy (rowAt copy (s .here .row))) cs
+            ≡ (if atEnd table (s .here .row) then giveBack table s (s .callers) 0 else ruled table (rowAt table (s .here .row))) cs
+        go true e =
+            ap (λ (w : Work Move). (if atEnd table (s .here .row) then w else ruled copy (rowAt copy (s .here .row))) cs) (same-back s (s .callers) 0)
+            ∙ ap (λ (w : Work Move). (if atEnd table (s .here .row) then giveBack table s (s .callers) 0 else w) cs)
+            (ap (ruled copy) (same-line (s .here .row))
+            ∙ same-rule ps s (s .here .row) (rowKind (rowAt table (s .here .row) .kind)) (rowAt table (s .here .row)) (row-there (s .here .row) (ltb-true _ _ e)))
+        go false e = rw (e, same-back s (s .callers) 0)
+
+    same-step-choices : (ps : List ℕ) (ks : List Bool) (s : State) → stepChoices ps copy ks s (s .here .row) ≡ stepChoices ps table ks s (s .here .row)
+    unfolding stepChoices atEnd
+    same-step-choices ps ks s = rw (same-at-end (s .here .row)) (go (ltb (s .here .row) (f .counts .rows)) refl)
+      where
+        ruled : Table → Line → List ℕ
+        ruled t l = rowChoices ps t ks s (s .here .row) (rowKind (l .kind)) (l .a) (l .b) (l .c)
+
+        go : (b : Bool) → ltb (s .here .row) (f .counts .rows) ≡ b
+            → (if atEnd table (s .here .row) then [] else ruled copy (rowAt copy (s .here .row)))
+            ≡ (if atEnd table (s .here .row) then [] else ruled table (rowAt table (s .here .row)))
+        go true e =
+            ap (λ (xs : List ℕ). if atEnd table (s .here .row) then [] else xs)
+            (ap (ruled copy) (same-line (s .here .row))
+            ∙ same-row-choices ps ks s (s .here .row) (rowKind (rowAt table (s .here .row) .kind)) (rowAt table (s .here .row))
+            (row-there (s .here .row) (ltb-true _ _ e)))
+        go false e = rw e
 
     own-same-table : Same t f own
-    unfolding step stepAt stepChoices
     own-same-table = record {
       places = same-places;
       vars = same-vars;
-      step = λ ps s cs h. let r = s .here .row in
-          ap (λ (l : Line). rowRule ps copy s r (rowKind (l .kind)) (l .a) (l .b) (l .c) cs) (same-line r)
-          ∙ ap (λ (x : Work Move). x cs) (same-rule ps s r (rowKind (rowAt table r .kind)) (rowAt table r) (row-there r h));
-      choices = λ ps ks s h. let r = s .here .row in
-          ap (λ (l : Line). rowChoices ps copy ks s r (rowKind (l .kind)) (l .a) (l .b) (l .c)) (same-line r)
-          ∙ same-row-choices ps ks s r (rowKind (rowAt table r .kind)) (rowAt table r) (row-there r h);
+      home = same-home;
+      locals = same-locals;
+      opening = same-opening;
+      step = same-step;
+      choices = same-step-choices;
       heldNext = λ r h. same-pointer (rowAt copy r .a) ∙ ap (markedPointer table) (same-variable r)
     }
 

@@ -5,7 +5,7 @@ use lib.ListN.{getD}
 use lib.Dec.{leb, eqb}
 use Rattle.lists.specs.If.{if_then_else_}
 use Rattle.lists.specs.Tab.{tab}
-use Rattle.table.specs.Checks.{machineOf}
+use Rattle.kinds.specs.Kinds.{machineOf}
 use Rattle.model.specs.Class.{pair}
 use Rattle.model.specs.Table.{Table, Ty, typeAt}
 use Rattle.model.specs.Table.Ty.{bool, uint, pointer}

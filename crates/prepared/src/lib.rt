@@ -4,7 +4,7 @@ pub mod forms; // forms.rt: the form of value that a variable holds
 pub mod own; // own.rt: the copy
 pub mod places; // places.rt: classes and tracked places, by the copy
 
-use table::Counts;
+use kinds::Counts;
 
 // The two places; whether marked uints hold classes, as in the reduced machine; and how many lines of each sort the table has.
 // The plain machine tracks no place, whatever the two numbers are.

@@ -1,16 +1,17 @@
-// The run's own copy of a table.
+// The run's own copy of a table, and the words of its rows.
 use crate::Frame;
 use crate::forms::form_of;
 use crate::forms::number_of;
 use crate::copies::copy;
+use lists::word_or_zero;
 ghost use mathlib.Core.Path.{_≡_};
-ghost use Prim.Native.Nat.{_≤_};
-ghost use lib.ListN.{length, replicate};
+ghost use Prim.Native.Nat.{_+_, _*_, _≤_};
+ghost use lib.ListN.{length, getD, replicate};
 ghost use Rattle.lists.specs.If.{if_then_else_};
 ghost use Rattle.prepared.specs.CodeOwn.{copied, told, Formed};
 ghost use Rattle.prepared.specs.Own.{Own, ownWords};
 ghost use Rattle.prepared.specs.View.{tableFor};
-ghost use Rattle.table.specs.Code.{InSorts};
+ghost use Rattle.kinds.specs.Code.{InSorts};
 
 // Where what the run is told, the nodes and the rows stand.
 pub const HEAD: usize = 128;
@@ -80,4 +81,12 @@ pub fn lay_out(t: &[u32], f: Frame, own: &mut [u32])
     copy_lines(t, f, own);
     tell(f, own);
     set_forms(t, f, own);
+}
+
+// Word i of a row: its kind or an operand.
+pub fn row_word(own: &[u32; 5256], row: u32, i: usize) -> u32
+    requires { ⌜ i ≤ 3 ⌝ }
+    ensures { λ r. ⌜ r ≡ getD (now (own .entry)) (4 * (34 + 1024 + row) + i) 0 ⌝ }
+{
+    word_or_zero(own, ROWS + 4 * row as usize + i)
 }

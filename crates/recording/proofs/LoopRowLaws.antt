@@ -22,7 +22,7 @@ use Rattle.model.specs.Work.{Out, Work, give}
 use Rattle.model.specs.State.{State}
 use Rattle.model.specs.Eval.{Of, Ptr, ptr, nextStart, arrayOf}
 use Rattle.model.specs.Step.{Move, write, loopAt, pastEnd, node}
-use Rattle.model.specs.Writer.{given, heldReduced, nodeChoices, storeChoices, loopChoices, repeatChoices, rowChoices}
+use Rattle.model.specs.Writer.{given, heldReduced, nodeChoices, repeatChoices, rowChoices}
 use Rattle.prepared.specs.Own.{placesOf, ownTable}
 use Rattle.evaluators.proofs.answers.Answer.{the-type as answer}
 use Rattle.evaluators.specs.declared.answers.Failure.the-variants.{Fails, Stuck}
@@ -38,12 +38,14 @@ use Rattle.machine.specs.declared.Machine.{Machine}
 use Rattle.machine.specs.declared.Move.the-variants.{Writes, Enters}
 use Rattle.machine.specs.declared.Worked.{Worked}
 use Rattle.machine.specs.declared.Worked.the-variants.{Moves, Not}
-use Rattle.machine.specs.View.{loopsOf, ownState}
+use Rattle.calls.specs.Stack.{loopsOf}
+use Rattle.machine.specs.View.{ownState}
 use Rattle.machine.specs.CodeMoves.{outer, LoopFits, RepeatFits, Works}
 use Rattle.machine.specs.CodeRows.{lostOf, fitsIn, sizeFor, cellGets, placeGets, targetGets, iterForm, iterNumber, wayOut, leaveOf, entryOf}
 use Rattle.machine.proofs.PutLaws.{lends, works-same}
 use Rattle.machine.proofs.WriteLaws.{works-by, target-writes, store-first, store-second, store-both}
-use Rattle.machine.proofs.LoopLaws.{loops-split, entry-loops, open-first, open-second, open-both, kind-read, kind-38, row-there}
+use Rattle.calls.proofs.StackLaws.{loops-split}
+use Rattle.machine.proofs.LoopLaws.{entry-loops, open-first, open-second, open-both, kind-read, kind-38, row-there}
 use Rattle.machine.proofs.LoopLaws.{repeat-none, repeat-ends, repeat-loop, repeat-other}
 use Rattle.recording.specs.CodePushes.{Pushed, pushed, push, pushAll}
 use Rattle.recording.specs.CodeRecords.{Plain, heldOf, pairOf, ReachedBy, Records, Recorded}
@@ -133,8 +135,8 @@ module _ {A : Type 0} {o : Out A} {xs mid : List ℕ} {p : Pushed} (g : A → Li
 any-place : {w : Ty} {x : Answer} (k : Work (Of w)) (i : ℕ) → Answers w [] x (k []) → Answers w [] x (k (drop i []))
 any-place k i h = rw (drop-nil i) h
 
-works-anywhere : {own : List ℕ} {m : Machine} {cells : List ℕ} {z : Worked} (k : Work Move) (i j : ℕ) → Works own m cells [] z (k (drop i []))
-    → Works own m cells [] z (k (drop j []))
+works-anywhere : {own stack : List ℕ} {m : Machine} {cells : List ℕ} {z : Worked} (k : Work Move) (i j : ℕ) → Works own stack m cells [] z (k (drop i []))
+    → Works own stack m cells [] z (k (drop j []))
 works-anywhere k i j h = works-same h (ap k (drop-nil i ∙ sym (drop-nil j)))
 
 -- ---- what row 39 asks for, of the innermost of its open loops, is what entering that loop asks for
@@ -154,33 +156,33 @@ module _ (own : List ℕ) (m : Machine) (cells held : List ℕ) (plain : Plain o
   abbrev T : Table
   T = ownTable own
 
-  abbrev S : State
-  S = ownState own m cells
+  abbrev S : List ℕ → State
+  S stack = ownState own stack m cells
 
   abbrev ks : List Bool
   ks = heldOf (m .count) held
 
   -- an operand, as the model says it
-  as-node : (w : Ty) (n : ℕ) {x : Answer} {out : List ℕ} {p : Pushed} → Recorded w (lends own m cells) held 1024 n x out p
-      → Records w (node [] T S w n []) (nodeChoices (pairOf own) T ks S w n) x out p
-  as-node w n {x} {out} {p} h =
-      subst (λ (k : Work (Of w)). Records w (k []) (nodeChoices (pairOf own) T ks S w n) x out p)
-      (row-operand (lends own m cells) held S refl refl refl w n plain)
-      (rw (row-numbers (lends own m cells) held S refl refl refl w n) at h)
+  as-node : (stack : List ℕ) (w : Ty) (n : ℕ) {x : Answer} {out : List ℕ} {p : Pushed} → Recorded w (lends own m cells) held 1024 n x out p
+      → Records w (node [] T (S stack) w n []) (nodeChoices (pairOf own) T ks (S stack) w n) x out p
+  as-node stack w n {x} {out} {p} h =
+      subst (λ (k : Work (Of w)). Records w (k []) (nodeChoices (pairOf own) T ks (S stack) w n) x out p)
+      (row-operand (lends own m cells) held (S stack) refl refl refl w n plain)
+      (rw (row-numbers (lends own m cells) held (S stack) refl refl refl w n) at h)
 
   -- ---- row 34: x is what the pointer gave, y what the value gave
   abbrev onValue : Ptr → ℕ → List ℕ
-  onValue q v = storeChoices (pairOf own) T ks S q
+  onValue q v = if heldReduced ks (q .array) then q .place ∷ [] else []
 
-  abbrev onPointer : Ptr → List ℕ
-  onPointer q = nodeChoices (pairOf own) T ks S uint b ++ given (node [] T S uint b []) (onValue q)
+  abbrev onPointer : List ℕ → Ptr → List ℕ
+  onPointer stack q = nodeChoices (pairOf own) T ks (S stack) uint b ++ given (node [] T (S stack) uint b []) (onValue q)
 
   module _ (x : Answer) (mid : List ℕ) (hx : Recorded pointer (lends own m cells) held 1024 a x mid (pushed before 0)) where
     pub store-no-place : {z : Worked} → OneOf (0 ∷ 1 ∷ 3 ∷ []) (tagOf answer x) → z ≡ lostOf x → RowRecords own m cells held store a b c z before mid
     unfolding rowChoices
     store-no-place t e = record {
-      works = store-first own [] m cells false a b c 0 x (hx .value) t e;
-      numbers = lost-move onPointer (lost-pointer x mid (pushed before 0) (as-node pointer a hx) t) e;
+      works = λ stack. store-first own stack [] m cells false a b c 0 x (hx .value) t e;
+      numbers = λ stack. lost-move (onPointer stack) (lost-pointer x mid (pushed before 0) (as-node stack pointer a hx) t) e;
     }
 
     module _ {to place i : ℕ} (ex : x ≡ APointer to place i) (y : Answer) (new : List ℕ)
@@ -188,15 +190,16 @@ module _ (own : List ℕ) (m : Machine) (cells held : List ℕ) (plain : Plain o
       said : Answers uint [] y (operand (lends own m cells) uint 1024 b (drop i []))
       said = any-place (operand (lends own m cells) uint 1024 b) i (hy .value)
 
-      pointed-at : Gave (node [] T S pointer a []) (ptr to place) (nodeChoices (pairOf own) T ks S pointer a) mid i (pushed before 0)
-      pointed-at = gave-pointer x mid (pushed before 0) (as-node pointer a hx) ex
+      pointed-at : (stack : List ℕ) → Gave (node [] T (S stack) pointer a []) (ptr to place) (nodeChoices (pairOf own) T ks (S stack) pointer a) mid i
+          (pushed before 0)
+      pointed-at stack = gave-pointer x mid (pushed before 0) (as-node stack pointer a hx) ex
 
       pub store-no-value : {z : Worked} → OneOf (0 ∷ 2 ∷ 3 ∷ []) (tagOf answer y) → z ≡ lostOf y → RowRecords own m cells held store a b c z before new
       unfolding rowChoices
       store-no-value {z} t e = record {
-        works = store-second own [] m cells false a b c 0 x (hx .value) ex y said t e;
-        numbers = gave-move onPointer z new pointed-at
-            (lost-move (onValue (ptr to place)) (lost-uint y new (pushed mid i) (as-node uint b hy) t) e);
+        works = λ stack. store-second own stack [] m cells false a b c 0 x (hx .value) ex y said t e;
+        numbers = λ stack. gave-move (onPointer stack) z new (pointed-at stack)
+            (lost-move (onValue (ptr to place)) (lost-uint y new (pushed mid i) (as-node stack uint b hy) t) e);
       }
 
       -- t is what the pointer points to
@@ -206,26 +209,26 @@ module _ (own : List ℕ) (m : Machine) (cells held : List ℕ) (plain : Plain o
           → RowRecords own m cells held store a b c z before last
       unfolding rowChoices
       store-recorded room t last n {z} {v} {j} fits ey pt h e = record {
-        works = store-both own [] m cells false a b c 0 x (hx .value) ex y said ey
-            (works-by (works-anywhere (write (placesOf own) S (ptr to place) v) n j (target-writes own m cells [] fits t to place v n pt)) e);
-        numbers = gave-move onPointer z last pointed-at
-            (gave-move (onValue (ptr to place)) z last (gave-uint y new (pushed mid i) (as-node uint b hy) ey)
+        works = λ stack. store-both own stack [] m cells false a b c 0 x (hx .value) ex y said ey
+            (works-by (works-anywhere (write (placesOf own) (S stack) (ptr to place) v) n j (target-writes own stack m cells [] fits t to place v n pt)) e);
+        numbers = λ stack. gave-move (onPointer stack) z last (pointed-at stack)
+            (gave-move (onValue (ptr to place)) z last (gave-uint y new (pushed mid i) (as-node stack uint b hy) ey)
             (rw e (target-kept last n h own room t place v)));
       }
 
   -- ---- row 38: x is what the start gave, y what the end gave
-  abbrev onEnd : ℕ → ℕ → List ℕ
-  onEnd = loopChoices (pairOf own) T ks S (m .row)
+  abbrev bounds : ℕ → ℕ → ℕ → List ℕ
+  bounds r v w = if marked own 2 (rowAt T r .a) then v ∷ w ∷ [] else []
 
-  abbrev onStart : ℕ → List ℕ
-  onStart v = nodeChoices (pairOf own) T ks S uint c ++ given (node [] T S uint c []) (onEnd v)
+  abbrev onStart : List ℕ → ℕ → List ℕ
+  onStart stack v = nodeChoices (pairOf own) T ks (S stack) uint c ++ given (node [] T (S stack) uint c []) (bounds (m .row) v)
 
   module _ (x : Answer) (mid : List ℕ) (hx : Recorded uint (lends own m cells) held 1024 b x mid (pushed before 0)) where
     pub loop-no-start : {z : Worked} → OneOf (0 ∷ 2 ∷ 3 ∷ []) (tagOf answer x) → z ≡ lostOf x → RowRecords own m cells held loop a b c z before mid
     unfolding rowChoices
     loop-no-start t e = record {
-      works = open-first own [] m cells false a b c 0 x (hx .value) t e;
-      numbers = lost-move onStart (lost-uint x mid (pushed before 0) (as-node uint b hx) t) e;
+      works = λ stack. open-first own stack [] m cells false a b c 0 x (hx .value) t e;
+      numbers = λ stack. lost-move (onStart stack) (lost-uint x mid (pushed before 0) (as-node stack uint b hx) t) e;
     }
 
     module _ {from i : ℕ} (ex : x ≡ AUint from i) (y : Answer) (new : List ℕ)
@@ -233,28 +236,29 @@ module _ (own : List ℕ) (m : Machine) (cells held : List ℕ) (plain : Plain o
       end-said : Answers uint [] y (operand (lends own m cells) uint 1024 c (drop i []))
       end-said = any-place (operand (lends own m cells) uint 1024 c) i (hy .value)
 
-      started : Gave (node [] T S uint b []) from (nodeChoices (pairOf own) T ks S uint b) mid i (pushed before 0)
-      started = gave-uint x mid (pushed before 0) (as-node uint b hx) ex
+      started : (stack : List ℕ) → Gave (node [] T (S stack) uint b []) from (nodeChoices (pairOf own) T ks (S stack) uint b) mid i (pushed before 0)
+      started stack = gave-uint x mid (pushed before 0) (as-node stack uint b hx) ex
 
       pub loop-no-end : {z : Worked} → OneOf (0 ∷ 2 ∷ 3 ∷ []) (tagOf answer y) → z ≡ lostOf y → RowRecords own m cells held loop a b c z before new
       unfolding rowChoices
       loop-no-end {z} t e = record {
-        works = open-second own [] m cells false a b c 0 x (hx .value) ex y end-said t e;
-        numbers = gave-move onStart z new started (lost-move (onEnd from) (lost-uint y new (pushed mid i) (as-node uint c hy) t) e);
+        works = λ stack. open-second own stack [] m cells false a b c 0 x (hx .value) ex y end-said t e;
+        numbers = λ stack. gave-move (onStart stack) z new (started stack)
+            (lost-move (bounds (m .row) from) (lost-uint y new (pushed mid i) (as-node stack uint c hy) t) e);
       }
 
       pub loop-recorded : (last : List ℕ) (n : ℕ) {z : Worked} {upto j : ℕ} → LoopFits own (m .numbers) (m .row) (m .row) (m .«open»)
           → length (m .«loop_rows») ≡ 8 → length (m .starts) ≡ 8 → length (m .ends) ≡ 8 → y ≡ AUint upto j
-          → pushed last n ≡ pushAll (onEnd from upto) (pushed new j)
+          → pushed last n ≡ pushAll (bounds (m .row) from upto) (pushed new j)
           → z ≡ entryOf own (m .numbers) (m .row) (m .row) false from upto (m .«open») false n
           → RowRecords own m cells held loop a b c z before last
       unfolding rowChoices
       loop-recorded last n {z} {upto} {j} fits hr hs he ey h e = record {
-        works = open-both own [] m cells false a b c 0 x (hx .value) ex y end-said ey
-            (works-by (works-anywhere (loopAt (placesOf own) T S (m .row) loop from upto (pastEnd T (m .row))) n j
-            (entry-loops own m cells [] (m .row) from upto (m .«open») false n fits hr hs he)) e);
-        numbers = gave-move onStart z last started
-            (gave-move (onEnd from) z last (gave-uint y new (pushed mid i) (as-node uint c hy) ey)
+        works = λ stack. open-both own stack [] m cells false a b c 0 x (hx .value) ex y end-said ey
+            (works-by (works-anywhere (loopAt (placesOf own) T (S stack) (m .row) loop from upto (pastEnd T (m .row))) n j
+            (entry-loops own stack m cells [] (m .row) from upto (m .«open») false n fits hr hs he)) e);
+        numbers = λ stack. gave-move (onStart stack) z last (started stack)
+            (gave-move (bounds (m .row) from) z last (gave-uint y new (pushed mid i) (as-node stack uint c hy) ey)
             (rw e (entry-kept last n h own (m .numbers) (m .row) (m .row) false from upto (m .«open») false)));
       }
 
@@ -262,7 +266,7 @@ module _ (own : List ℕ) (m : Machine) (cells held : List ℕ) (plain : Plain o
   -- no loop is open
   pub repeat-nothing : m .«open» ≡ 0 → RowRecords own m cells held loopEnd a b c (Not Stuck 0) before before
   unfolding ReachedMove ReachedBy
-  repeat-nothing e = record { works = repeat-none own [] m cells a b c 0 e; numbers = tt }
+  repeat-nothing e = record { works = λ stack. repeat-none own stack [] m cells a b c 0 e; numbers = λ stack. tt }
 
   -- d loops are open around the innermost, and x is what its start and 1 came to
   module _ (d : ℕ) (ed : m .«open» ≡ suc d) (x : Answer) (px : Says uint 0 x (nextStart (getD (m .starts) d 0))) where
@@ -273,20 +277,21 @@ module _ (own : List ℕ) (m : Machine) (cells held : List ℕ) (plain : Plain o
     end = getD (m .ends) d 0
 
     abbrev onNext : ℕ → List ℕ
-    onNext v = loopChoices (pairOf own) T ks S row v end
+    onNext v = bounds row v end
 
     next-start : Records uint (nextStart (getD (m .starts) d 0) []) [] x before (pushed before 0)
     next-start = says-next x 0 before (getD (m .starts) d 0) px
 
-    innermost : given (nextStart (getD (m .starts) d 0) []) onNext ≡ rowChoices (pairOf own) T ks S (m .row) loopEnd a b c
+    innermost : (stack : List ℕ)
+        → given (nextStart (getD (m .starts) d 0) []) onNext ≡ rowChoices (pairOf own) T ks (S stack) (m .row) loopEnd a b c
     unfolding rowChoices
-    innermost = ap (repeatChoices (pairOf own) T ks S) (sym (loops-split d (m .«loop_rows») (m .starts) (m .ends)))
-        ∙ ap (λ (n : ℕ). repeatChoices (pairOf own) T ks S (loopsOf n (m .«loop_rows») (m .starts) (m .ends))) (sym ed)
+    innermost stack = ap (repeatChoices (pairOf own) T ks (S stack)) (sym (loops-split d (m .«loop_rows») (m .starts) (m .ends)))
+        ∙ ap (λ (n : ℕ). repeatChoices (pairOf own) T ks (S stack) (loopsOf n (m .«loop_rows») (m .starts) (m .ends))) (sym ed)
 
     pub repeat-no-start : {z : Worked} → OneOf (0 ∷ 2 ∷ 3 ∷ []) (tagOf answer x) → z ≡ lostOf x → RowRecords own m cells held loopEnd a b c z before before
     repeat-no-start t e = record {
-      works = repeat-ends own [] m cells a b c 0 d ed x px t e;
-      numbers = rw (← innermost) (lost-move onNext (lost-uint x before (pushed before 0) next-start t) e);
+      works = λ stack. repeat-ends own stack [] m cells a b c 0 d ed x px t e;
+      numbers = λ stack. rw (← innermost stack) (lost-move onNext (lost-uint x before (pushed before 0) next-start t) e);
     }
 
     module _ {from i : ℕ} (ex : x ≡ AUint from i) {k : ℕ} (ek : k ≡ getD own (4 * (34 + 1024 + row) + 0) 0) where
@@ -294,18 +299,18 @@ module _ (own : List ℕ) (m : Machine) (cells held : List ℕ) (plain : Plain o
           → k ≡ 38 → pushed last n ≡ pushAll (onNext from) (pushed before 0)
           → z ≡ entryOf own (m .numbers) (m .row) row false from end d true n → RowRecords own m cells held loopEnd a b c z before last
       repeat-recorded last n {z} f ek38 h e = record {
-        works = repeat-loop own [] m cells a b c 0 d ed x px ex ek false (kind-38 ek38)
-            (works-by (works-anywhere (loopAt (placesOf own) T (outer own m cells d) row loop from end (give (suc (m .row)))) n i
-            (entry-loops own m cells [] row from end d true n
+        works = λ stack. repeat-loop own stack [] m cells a b c 0 d ed x px ex ek false (kind-38 ek38)
+            (works-by (works-anywhere (loopAt (placesOf own) T (outer own stack m cells d) row loop from end (give (suc (m .row)))) n i
+            (entry-loops own stack m cells [] row from end d true n
             (repeat-fits own (m .numbers) (m .«loop_rows») (m .starts) (m .ends) (m .row) d ed ek ek38 f) (f .loopRows) (f .starts) (f .ends))) e);
-        numbers = rw (← innermost, gave-uint x before (pushed before 0) next-start ex .gave, e)
+        numbers = λ stack. rw (← innermost stack, gave-uint x before (pushed before 0) next-start ex .gave, e)
             (entry-kept last n h own (m .numbers) (m .row) row false from end d true);
       }
 
       -- its row opens no loop
       pub repeat-no-loop : k ≢ 38 → RowRecords own m cells held loopEnd a b c (Not Stuck 0) before before
       unfolding ReachedMove ReachedBy
-      repeat-no-loop h = record { works = repeat-other own [] m cells a b c 0 d ed x px ex ek h other; numbers = tt }
+      repeat-no-loop h = record { works = λ stack. repeat-other own stack [] m cells a b c 0 d ed x px ex ek h other; numbers = λ stack. tt }
         where
           other : k ≢ 42
-          other e = omega (numbers, kind-read own row ek, plain .rows row, e)
+          other e = let q = kind-read own row ek in omega (numbers, plain .rows row (omega (numbers, q, e)), q, e)

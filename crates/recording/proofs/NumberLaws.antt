@@ -17,8 +17,8 @@ use Rattle.model.specs.Table.Ty.{bool, uint, pointer}
 use Rattle.model.specs.Table.Node.{variable, uintConstant, boolConstant, cell, plus, minus, less, atMost, equal, conditional, valid, classVariable}
 use Rattle.model.specs.Table.Node.{reducedCell, reducedValid, noNode}
 use Rattle.model.specs.Work.{Out, Work, _>>=_}
-use Rattle.model.specs.State.{State, Position}
-use Rattle.model.specs.Step.{withHere, node}
+use Rattle.model.specs.State.{Position, Caller, State}
+use Rattle.model.specs.Step.{withWork, node}
 use Rattle.model.specs.Eval.{Of, Ptr, contentsOf, rule, present, below, evalF, eval}
 use Rattle.model.specs.Writer.{given, choicesRule, choicesF, nodeChoices}
 use Rattle.model.proofs.EvalLaws.{eval-is}
@@ -80,10 +80,10 @@ module _ (ps : List ℕ) (t : Table) (ks : List Bool) (s : State) where
       (fun-ext λ v. fun-ext λ m. under m n (choicesF ps t ks s n v m) (choicesF ps t ks s (suc m) v m) []
       (λ l. same-choices n (suc m) v m l (omega numbers)))
 
--- where a state stands does not matter to them
-module _ (ps : List ℕ) (t : Table) (ks : List Bool) (s : State) (here : Position) where
+-- where a state stands, and who its callers are, does not matter to them
+module _ (ps : List ℕ) (t : Table) (ks : List Bool) (s : State) (here : Position) (callers : List Caller) where
   abbrev moved : State
-  moved = withHere s here
+  moved = withWork s here callers (s .vars)
 
   same-rule : (w : Ty) (k : Node) (a b c : ℕ) (ev : (v : Ty) → ℕ → Work (Of v)) (f : Ty → ℕ → List ℕ)
       → choicesRule ps t ks s w k a b c ev f ≡ choicesRule ps t ks moved w k a b c ev f
@@ -236,7 +236,7 @@ module _ (e : Lent) (held : List ℕ) where
 -- ---- a row's operand, at any state that has what is lent
 module _ (e : Lent) (held : List ℕ) (s : State) (vars : s .vars ≡ varsIn e) (arrays : s .arrays ≡ arraysIn e) (cells : s .cells ≡ e .cells) where
   abbrev standing : State
-  standing = record { here = s .here; vars = varsIn e; arrays = arraysIn e; cells = e .cells }
+  standing = record { here = s .here; callers = s .callers; vars = varsIn e; arrays = arraysIn e; cells = e .cells }
 
   state-is : standing ≡ s
   state-is = rw (← vars, ← arrays, ← cells)
@@ -245,7 +245,7 @@ module _ (e : Lent) (held : List ℕ) (s : State) (vars : s .vars ≡ varsIn e) 
   unfolding operandNumbers nodeChoices
   row-numbers w n =
       ap (λ (xs : List ℕ). if ltb n 1024 then xs else [])
-      (same-state (pairOf (e .own)) (ownTable (e .own)) (heldOf (e .count) held) (stateIn e) (s .here) (suc n) w n)
+      (same-state (pairOf (e .own)) (ownTable (e .own)) (heldOf (e .count) held) (stateIn e) (s .here) (s .callers) (suc n) w n)
       ∙ ap (λ (t : State). nodeChoices (pairOf (e .own)) (ownTable (e .own)) (heldOf (e .count) held) t w n) state-is
 
   pub row-operand : (w : Ty) (n : ℕ) → Plain (e .own) → operand e w 1024 n ≡ node [] (ownTable (e .own)) s w n

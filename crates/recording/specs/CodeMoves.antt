@@ -19,14 +19,15 @@ ReachedMove (Moves x at) out p = pushed out at ≡ p
 ReachedMove (Ends e at) out p = pushed out at ≡ p
 ReachedMove (Not why at) out p = ReachedBy why at out p
 
--- a row of the kind k at which the record stands, by its operands, with no choices: its numbers were pushed onto the buffer from place 0 on
+-- a row of the kind k at which the record stands, by its operands, with no choices and whatever the callers: its numbers were pushed onto the
+-- buffer from place 0 on
 pub record RowRecords (own : List ℕ) (m : Machine) (cells held : List ℕ) (k : Row) (a b c : ℕ) (r : Worked) (before after : List ℕ) : Type 0 where
-  pub works : RowWorks own m cells [] k a b c [] r
-  pub numbers : ReachedMove r after
-      (pushAll (rowChoices (pairOf own) (ownTable own) (heldOf (m .count) held) (ownState own m cells) (m .row) k a b c) (pushed before 0))
+  pub works : (stack : List ℕ) → RowWorks own stack m cells [] k a b c [] r
+  pub numbers : (stack : List ℕ) → ReachedMove r after
+      (pushAll (rowChoices (pairOf own) (ownTable own) (heldOf (m .count) held) (ownState own stack m cells) (m .row) k a b c) (pushed before 0))
 
--- ... the row where the record stands
-pub record StepRecords (own : List ℕ) (m : Machine) (cells held : List ℕ) (r : Worked) (before after : List ℕ) : Type 0 where
-  pub works : StepWorks own m cells [] 0 r
+-- ... the row where the record stands, with the callers of a stack
+pub record StepRecords (own stack : List ℕ) (m : Machine) (cells held : List ℕ) (r : Worked) (before after : List ℕ) : Type 0 where
+  pub works : StepWorks own stack m cells [] 0 r
   pub numbers : ReachedMove r after
-      (pushAll (stepChoices (pairOf own) (ownTable own) (heldOf (m .count) held) (ownState own m cells) (m .row)) (pushed before 0))
+      (pushAll (stepChoices (pairOf own) (ownTable own) (heldOf (m .count) held) (ownState own stack m cells) (m .row)) (pushed before 0))

@@ -31,15 +31,15 @@ heldOf count held = tab count (λ i. eqb (getD held i 0) 1)
 pub record Plain (own : List ℕ) : Type 0 where
   pub untracked : placesOf own ≡ []
   pub nodes : (n : ℕ) → n < 1024 → nodeAt (ownTable own) n .kind ≤ 26
-  pub rows : (r : ℕ) → rowAt (ownTable own) r .kind ≤ 39
+  pub rows : (r : ℕ) → 40 ≤ rowAt (ownTable own) r .kind → 43 ≤ rowAt (ownTable own) r .kind
 
 -- the places that the reduced run tracks; the plain machine tracks none, so that the copy's two numbers are free for them
 abbrev pub pairOf : List ℕ → List ℕ
 pairOf own = pair (getD own 129 0) (getD own 130 0)
 
--- the state that a node is worked out at: neither the row nor the loops matter to it
+-- the state that a node is worked out at: neither the row nor the loops nor the callers matter to it
 abbrev pub stateIn : Lent → State
-stateIn e = record { here = position 0 []; vars = varsIn e; arrays = arraysIn e; cells = e .cells }
+stateIn e = record { here = position 0 []; callers = []; vars = varsIn e; arrays = arraysIn e; cells = e .cells }
 
 -- the numbers (rule 4.6) of node n, which must be below `user`, for the type w
 unfoldable pub operandNumbers : Lent → List ℕ → Ty → ℕ → ℕ → List ℕ

@@ -18,12 +18,14 @@ use machine::Worked;
 use machine::arrays::laid;
 use machine::conditions::tested;
 use machine::loops::entry;
-use machine::loops::row_word;
+use machine::turns::called;
+use machine::turns::returned;
 use machine::values::lost;
 use machine::values::put_bool;
 use machine::values::put_pointer;
 use machine::values::put_uint;
 use machine::writes::target_gets;
+use prepared::own::row_word;
 ghost use mathlib.Core.Path.{_≡_};
 ghost use Prim.Native.Nat.{ℕ, _<_, _≤_, _^_};
 ghost use mathlib.Core.List.{List, [], _∷_};
@@ -32,8 +34,9 @@ ghost use Rattle.model.specs.Writer.{heldReduced};
 ghost use lib.ListN.{length};
 ghost use Rattle.model.specs.Table.{rowAt, markedUint};
 ghost use Rattle.model.specs.Table.Row.{assign, store, loop, loopEnd};
-ghost use Rattle.prepared.specs.Own.{declsOf, ownTable};
-ghost use Rattle.machine.specs.CodeMoves.{columns, BoolsFit, Within, LoopFits, RepeatFits};
+ghost use Rattle.prepared.specs.Own.{declsOf, rowsOf, ownTable};
+ghost use Rattle.calls.specs.Stack.{depthOf};
+ghost use Rattle.machine.specs.CodeMoves.{columns, BoolsFit, Within, Turns, LoopFits, RepeatFits};
 ghost use Rattle.recording.specs.CodePushes.{pushed, pushAll};
 ghost use Rattle.recording.specs.CodeRecords.{Plain, heldOf};
 ghost use Rattle.recording.specs.CodeMoves.{RowRecords, StepRecords};
@@ -200,7 +203,56 @@ fn record_repeat<'a>(
     Worked::Not(Failure::Stuck, 0)
 }
 
-// The row where a record stands, by its kind.
+// The row, by its kind; that of a 43 ends what stands before it, and takes no number (rule 2.43). depth is how many callers there are.
+fn recorded_row<'a>(
+    own: &[u32; 5256],
+    cells: &[u32],
+    out: &mut [u32],
+    row: u32,
+    ns: &'a [u32; 32],
+    bs: &'a [u32; 32],
+    open: u32,
+    loop_rows: &'a [u32; 8],
+    starts: &'a [u32; 8],
+    ends: &'a [u32; 8],
+    count: u32,
+    fs: &'a [u32; 16],
+    ls: &'a [u32; 16],
+    hs: &'a [u8; 16],
+    held: &[u8; 16],
+    depth: u32,
+) -> Worked
+    requires { ⌜ Within (now own) (columns row (now ns) (now bs) «open» (now «loop_rows») (now starts) (now ends) count (now fs) (now ls) (now hs))
+        (now cells) × (row < rowsOf (now own)) ⌝ }
+    requires { ⌜ Plain (now own) ⌝ }
+    ensures { λ r. ⌜ ((map stack : List ℕ) → depth ≡ depthOf stack
+        → Turns (now (own .entry)) map stack (columns row (now (ns .entry)) (now (bs .entry)) «open» (now («loop_rows» .entry)) (now (starts .entry))
+        (now (ends .entry)) count (now (fs .entry)) (now (ls .entry)) (now (hs .entry))) (now (cells .entry))
+        → StepRecords (now (own .entry)) stack (columns row (now (ns .entry)) (now (bs .entry)) «open» (now («loop_rows» .entry)) (now (starts .entry))
+        (now (ends .entry)) count (now (fs .entry)) (now (ls .entry)) (now (hs .entry))) (now (cells .entry)) (now (held .entry)) r (now (out .entry))
+        (now (out .exit))) ⌝ }
+{
+    let kind = row_word(own, row, 0);
+    let a = wide(row_word(own, row, 1));
+    let b = wide(row_word(own, row, 2));
+    let c = wide(row_word(own, row, 3));
+    match kind {
+        32 => Worked::Moves(Move::Goes, 0),
+        33 => record_assign(a, b, own, cells, out, ns, bs, fs, ls, hs, held, count),
+        34 => record_store(a, b, own, cells, out, ns, bs, fs, ls, hs, held, count),
+        35 => tested(false, record_bool(a, 1024, 0, own, cells, out, ns, bs, fs, ls, hs, held, count)),
+        36 => tested(true, record_bool(a, 1024, 0, own, cells, out, ns, bs, fs, ls, hs, held, count)),
+        37 => laid(own, ns, ls, hs, count, cells.len(), false, a, record_uint(b, 1024, 0, own, cells, out, ns, bs, fs, ls, hs, held, count)),
+        38 => record_loop(b, c, own, cells, out, ns, bs, fs, ls, hs, held, count, row, open),
+        39 => record_repeat(own, out, ns, loop_rows, starts, ends, row, open),
+        43 => Worked::Moves(Move::Returns(0), 0),
+        44 => returned(record_uint(a, 1024, 0, own, cells, out, ns, bs, fs, ls, hs, held, count)),
+        45 => called(depth, row_word(own, row, 1), record_uint(b, 1024, 0, own, cells, out, ns, bs, fs, ls, hs, held, count)),
+        _ => Worked::Not(Failure::Stuck, 0),
+    }
+}
+
+// The row where a record stands; past the last row, where what stands before it ends, a return of 0 with no number (rule 2.43).
 pub fn recorded_move<'a>(
     own: &[u32; 5256],
     cells: &[u32],
@@ -217,27 +269,20 @@ pub fn recorded_move<'a>(
     ls: &'a [u32; 16],
     hs: &'a [u8; 16],
     held: &[u8; 16],
+    depth: u32,
 ) -> Worked
     requires { ⌜ Within (now own) (columns row (now ns) (now bs) «open» (now «loop_rows») (now starts) (now ends) count (now fs) (now ls) (now hs))
         (now cells) ⌝ }
     requires { ⌜ Plain (now own) ⌝ }
-    ensures { λ r. ⌜ StepRecords (now (own .entry)) (columns row (now (ns .entry)) (now (bs .entry)) «open» (now («loop_rows» .entry))
-        (now (starts .entry)) (now (ends .entry)) count (now (fs .entry)) (now (ls .entry)) (now (hs .entry))) (now (cells .entry))
-        (now (held .entry)) r (now (out .entry)) (now (out .exit)) ⌝ }
+    ensures { λ r. ⌜ ((map stack : List ℕ) → depth ≡ depthOf stack
+        → Turns (now (own .entry)) map stack (columns row (now (ns .entry)) (now (bs .entry)) «open» (now («loop_rows» .entry)) (now (starts .entry))
+        (now (ends .entry)) count (now (fs .entry)) (now (ls .entry)) (now (hs .entry))) (now (cells .entry))
+        → StepRecords (now (own .entry)) stack (columns row (now (ns .entry)) (now (bs .entry)) «open» (now («loop_rows» .entry)) (now (starts .entry))
+        (now (ends .entry)) count (now (fs .entry)) (now (ls .entry)) (now (hs .entry))) (now (cells .entry)) (now (held .entry)) r (now (out .entry))
+        (now (out .exit))) ⌝ }
 {
-    let kind = row_word(own, row, 0);
-    let a = wide(row_word(own, row, 1));
-    let b = wide(row_word(own, row, 2));
-    let c = wide(row_word(own, row, 3));
-    match kind {
-        32 => Worked::Moves(Move::Goes, 0),
-        33 => record_assign(a, b, own, cells, out, ns, bs, fs, ls, hs, held, count),
-        34 => record_store(a, b, own, cells, out, ns, bs, fs, ls, hs, held, count),
-        35 => tested(false, record_bool(a, 1024, 0, own, cells, out, ns, bs, fs, ls, hs, held, count)),
-        36 => tested(true, record_bool(a, 1024, 0, own, cells, out, ns, bs, fs, ls, hs, held, count)),
-        37 => laid(own, ns, ls, hs, count, cells.len(), false, a, record_uint(b, 1024, 0, own, cells, out, ns, bs, fs, ls, hs, held, count)),
-        38 => record_loop(b, c, own, cells, out, ns, bs, fs, ls, hs, held, count, row, open),
-        39 => record_repeat(own, out, ns, loop_rows, starts, ends, row, open),
-        _ => Worked::Not(Failure::Stuck, 0),
+    if own[134] <= row {
+        return Worked::Moves(Move::Returns(0), 0);
     }
+    recorded_row(own, cells, out, row, ns, bs, open, loop_rows, starts, ends, count, fs, ls, hs, held, depth)
 }

@@ -1,6 +1,6 @@
 // The reduction of a table, word by word into a lent table.
 use lists::word_or_zero;
-use table::marks::is_marked;
+use kinds::is_marked;
 ghost use mathlib.Core.Path.{_≡_};
 ghost use Prim.Native.Nat.{_<_};
 ghost use lib.ListN.{length};

@@ -22,7 +22,9 @@ use Rattle.model.specs.State.Value.{Truth, Uint, Class, Pointer}
 use Rattle.model.specs.Accepted.{CanHave, Holds, Regular}
 use Rattle.model.proofs.ReducedAccepted.{R}
 use Rattle.prepared.specs.View.{boolOr, byForm, kindOf, formFor, formIn, tableFor, varsOf, varsBy, arrayIn, arraysOf}
-use Rattle.machine.specs.View.{loopIn, loopsOf, stateOf}
+use Rattle.calls.specs.Stack.{loopIn, loopsOf}
+use Rattle.machine.specs.View.{stateOf}
+use Rattle.runs.specs.CodeSteps.{kept}
 
 -- ---- at most eight loops are open
 
@@ -52,23 +54,24 @@ formCode Form.Pointer = 3
 bool-small : (x : ℕ) (b : Bool) → boolOr x ≡ Truth b → x ≤ 1
 bool-small x b e = elim (decLe x 1) [ yes h ↦ h | no h ↦ absurd (omega (numbers, ap formOf (rw (lt-leb x 1 (omega numbers)) at e))) ]
 
-module _ (t : List ℕ) (f : Frame) (m : Machine) (cells : List ℕ) (ps : List ℕ) (k : MachineKind) (C : CanHave ps k (tableFor t f) (stateOf t f m cells)) where
+module _ (t : List ℕ) (f : Frame) (m : Machine) (stack cells ps : List ℕ) (k : MachineKind)
+    (C : CanHave ps k (tableFor t f) (stateOf t f (kept m stack) cells)) where
   open-is : m .«open» ≡ length (openAt (tableFor t f) (m .row))
   unfolding loopsOf
   open-is =
       sym (length-tab (m .«open») (λ i. loopIn (m .«loop_rows») (m .starts) (m .ends) (m .«open» - suc i)))
       ∙ sym (length-map (loopsOf (m .«open») (m .«loop_rows») (m .starts) (m .ends)) (λ (l : Loop). l .row))
-      ∙ ap length (C .loops)
+      ∙ ap length (C .here .loops)
 
   -- so at most eight, and fewer where a loop opens
   module _ (few : (r : ℕ) → r < f .counts .rows → nestAt (tableFor t f) r ≡ opens → length (openAt (tableFor t f) r) < 8) where
     pub loops-most : m .«open» ≤ 8
-    loops-most = omega (numbers, open-is, open-most (tableFor t f) few (m .row) (C .row))
+    loops-most = omega (numbers, open-is, open-most (tableFor t f) few (m .row) (C .here .row))
 
     pub loops-room : m .row < f .counts .rows → nestAt (tableFor t f) (m .row) ≡ opens → m .«open» < 8
     loops-room h e = omega (numbers, open-is, few (m .row) h e)
 
-  pub arrays-most : Regular ps k (tableFor t f) (stateOf t f m cells) → m .count ≤ 16
+  pub arrays-most : Regular ps k (tableFor t f) (stateOf t f (kept m stack) cells) → m .count ≤ 16
   unfolding arraysOf
   arrays-most R = omega (numbers, R .few, length-tab (m .count) (arrayIn (m .firsts) (m .lengths) (m .shapes)))
 
@@ -82,15 +85,15 @@ module _ (t : List ℕ) (f : Frame) (m : Machine) (cells : List ℕ) (ps : List 
   unfolding formIn
   bools-small q i h e =
       go (classed (kindOf f) (tableFor t f) i) refl (typeAt (tableFor t f) i) refl e
-      (subst (λ (k : MachineKind). Holds (classed k (tableFor t f) i) (length (stateOf t f m cells .arrays)) (typeAt (tableFor t f) i)
+      (subst (λ (k : MachineKind). Holds (classed k (tableFor t f) i) (length (stateOf t f (kept m stack) cells .arrays)) (typeAt (tableFor t f) i)
           (getD (varsOf t f (m .numbers) (m .bases)) i (Uint 0))) q (C .variable i h))
     where
       go : (b : Bool) → classed (kindOf f) (tableFor t f) i ≡ b → (w : Ty) → typeAt (tableFor t f) i ≡ w → (if b then Form.Class else formFor w) ≡ Form.Bool
-          → Holds (classed (kindOf f) (tableFor t f) i) (length (stateOf t f m cells .arrays)) (typeAt (tableFor t f) i)
+          → Holds (classed (kindOf f) (tableFor t f) i) (length (stateOf t f (kept m stack) cells .arrays)) (typeAt (tableFor t f) i)
               (getD (varsOf t f (m .numbers) (m .bases)) i (Uint 0)) → getD (m .numbers) i 0 ≤ 1
       go true u w v z g = absurd (omega (numbers, ap formCode z))
       go false u bool v z g =
-          let g′ : Holds false (length (stateOf t f m cells .arrays)) bool (getD (varsOf t f (m .numbers) (m .bases)) i (Uint 0)) = rw (u, v) at g in
+          let g′ : Holds false (length (stateOf t f (kept m stack) cells .arrays)) bool (getD (varsOf t f (m .numbers) (m .bases)) i (Uint 0)) = rw (u, v) at g in
           bool-small (getD (m .numbers) i 0) (g′ .0)
               (ap (λ (x : Form). byForm x (getD (m .numbers) i 0) (getD (m .bases) i 0)) (sym e) ∙ sym (var-is i h) ∙ g′ .1)
       go false u uint v z g = absurd (omega (numbers, ap formCode z))

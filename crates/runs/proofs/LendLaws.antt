@@ -8,11 +8,13 @@ use mathlib.Core.Bool.{Bool, true}
 use mathlib.Core.List.{List}
 use lib.ListN.{length, replicate, length-replicate}
 use borrow.Author.Tests.{eq-eqb, ne-eqb}
-use Rattle.lists.specs.Tab.{tab}
+use Rattle.lists.specs.Tab.{tab, listed}
 use Rattle.table.specs.declared.Verdict.{Verdict}
 use Rattle.table.specs.declared.Verdict.the-variants.{Passes, Refused}
-use Rattle.table.specs.Checks.{tableCheck, andThen, sizeCheck, machineOf}
-use Rattle.table.specs.Code.{InSorts, countsOf}
+use Rattle.kinds.specs.Kinds.{machineOf}
+use Rattle.table.specs.Checks.{tableCheck, andThen, sizeCheck}
+use Rattle.kinds.specs.Code.{InSorts}
+use Rattle.table.specs.Code.{countsOf}
 use Rattle.table.proofs.Passing.{Passing, passing, accepted, few-open, both-pass, size-passes}
 use Rattle.table.proofs.CheckLaws.{laid-of}
 use Rattle.model.specs.Class.{acceptedPlaces, pair}
@@ -24,17 +26,18 @@ use Rattle.model.specs.Step.{run}
 use Rattle.model.specs.Accepted.{Accepted, CanHave, Regular}
 use Rattle.model.proofs.Demand3Proof.{fresh-can}
 use Rattle.model.proofs.Kept.{fresh-regular}
-use Rattle.machine.specs.declared.Machine.{Machine}
+use Rattle.machine.specs.declared.Record.{Record}
 use Rattle.prepared.specs.declared.Frame.{Frame}
 use Rattle.prepared.specs.View.{places, kindOf, tableFor, arraysOf}
-use Rattle.machine.specs.View.{stateOf, loopsOf}
-use Rattle.machine.specs.CodeFresh.{freshVars, freshRecord}
+use Rattle.calls.specs.Stack.{loopsOf, callersOf}
+use Rattle.machine.specs.View.{stateOf}
+use Rattle.machine.specs.CodeFresh.{freshVars, freshMachine, freshRecord}
 use Rattle.machine.proofs.FreshLaws.{fresh-vars}
-use Rattle.runs.specs.Record.{recordFits}
+use Rattle.records.specs.Record.{recordFits}
 use Rattle.runs.specs.declared.Ran.{Ran}
 use Rattle.runs.specs.CodeSteps.{Ready, Reports, Lends}
 use Rattle.runs.specs.Checks.{placesFor, runChecks, frameOf}
-use Rattle.runs.proofs.RecordLaws.{fits-can}
+use Rattle.records.proofs.RecordLaws.{fits-can}
 
 -- what the checks of a run that pass say, one by one
 pub record Parts (m : MachineKind) (t : List ℕ) (size : ℕ) : Type 0 where
@@ -74,10 +77,13 @@ module _ (t : List ℕ) (f : Frame) (cells₀ : List ℕ) (S : Lends t f cells�
   pub few-decls : f .counts .decls ≤ 32
   few-decls = laid .fewDecls
 
-  ready : (m : Machine) (cells : List ℕ) → length cells ≡ length cells₀ → CanHave (places f) (kindOf f) (tableFor t f) (stateOf t f m cells)
+  pub whole-accepted : Accepted (kindOf f) (tableFor t f)
+  whole-accepted = subst (Accepted (kindOf f)) (sym (S .framed)) (accepted (kindOf f) t passed)
+
+  ready : (m : Record) (cells : List ℕ) → length cells ≡ length cells₀ → CanHave (places f) (kindOf f) (tableFor t f) (stateOf t f m cells)
       → Regular (places f) (kindOf f) (tableFor t f) (stateOf t f m cells) → Ready t f m cells
   ready m cells n C R = record {
-    accepted = subst (Accepted (kindOf f)) (sym (S .framed)) (accepted (kindOf f) t passed);
+    accepted = whole-accepted;
     laid = laid;
     few = subst (λ (T : Table). (r : ℕ) → r < T .rows → nestAt T r ≡ opens → length (openAt T r) < 8) (sym (S .framed)) (few-open (kindOf f) t passed);
     can = C;
@@ -86,9 +92,9 @@ module _ (t : List ℕ) (f : Frame) (cells₀ : List ℕ) (S : Lends t f cells�
   }
 
   -- a fresh record, in cells that are all zero
-  module _ (m : Machine) (cells : List ℕ) (begun : m ≡ freshRecord t f) (zeros : cells ≡ replicate (length cells₀) 0) where
+  module _ (m : Record) (cells : List ℕ) (begun : m ≡ freshRecord t f) (zeros : cells ≡ replicate (length cells₀) 0) where
     begins : stateOf t f (freshRecord t f) (replicate (cellCount (kindOf f)) 0) ≡ fresh (places f) (kindOf f) (tableFor t f)
-    unfolding loopsOf arraysOf fresh freshVars tab freshRecord
+    unfolding loopsOf callersOf arraysOf fresh freshVars tab listed freshMachine
     begins = rw (fresh-vars t f few-decls)
 
     pub state-fresh : stateOf t f m cells ≡ fresh (places f) (kindOf f) (tableFor t f)
@@ -98,7 +104,7 @@ module _ (t : List ℕ) (f : Frame) (cells₀ : List ℕ) (S : Lends t f cells�
     ready-fresh =
         ready m cells (rw zeros (length-replicate {A = ℕ} (length cells₀) 0))
         (subst (CanHave (places f) (kindOf f) (tableFor t f)) (sym state-fresh) (fresh-can (places f) (kindOf f) (tableFor t f)))
-        (subst (Regular (places f) (kindOf f) (tableFor t f)) (sym state-fresh) (fresh-regular (places f) (kindOf f) (tableFor t f)))
+        (subst (Regular (places f) (kindOf f) (tableFor t f)) (sym state-fresh) (fresh-regular (places f) (kindOf f) (tableFor t f) whole-accepted))
 
     runs-fresh : (limit : ℕ) (l : List ℕ)
         → run (places f) (tableFor t f) limit 0 (stateOf t f m cells) l ≡ run (places f) (tableOf t) limit 0 (fresh (places f) (kindOf f) (tableOf t)) l
@@ -112,7 +118,7 @@ module _ (t : List ℕ) (f : Frame) (cells₀ : List ℕ) (S : Lends t f cells�
     reports-fresh limit l r cells′ R = record { report = R .report ∙ runs-fresh limit l; within = R .within }
 
   -- a record that 15 does not refuse
-  ready-continued : (m : Machine) → recordFits (kindOf f) (places f) (tableFor t f) (stateOf t f m cells₀) ≡ true → Ready t f m cells₀
+  ready-continued : (m : Record) → recordFits (kindOf f) (places f) (tableFor t f) (stateOf t f m cells₀) ≡ true → Ready t f m cells₀
   ready-continued m e =
       let B = fits-can (kindOf f) (places f) (tableFor t f) (stateOf t f m cells₀) e in
       ready m cells₀ refl (B .can) (B .regular)
@@ -125,7 +131,7 @@ module _ (t cells : List ℕ) (classes : Bool) (c1 c2 : ℕ) {v : Verdict}
   unfolding tableOf places
   lends = subst (λ (f : Frame). Lends t f cells) (sym e) (record { framed = refl; passes = sym q ∙ p })
 
-  pub continues : (m : Machine) → recordFits (kindOf f) (places f) (tableFor t f) (stateOf t f m cells) ≡ true → Ready t f m cells
+  pub continues : (m : Record) → recordFits (kindOf f) (places f) (tableFor t f) (stateOf t f m cells) ≡ true → Ready t f m cells
   continues m fits = ready-continued t f cells lends m fits
 
 -- ---- the checks, one after the other

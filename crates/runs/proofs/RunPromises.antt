@@ -18,13 +18,13 @@ use Rattle.model.specs.Demand3.{Ends, EndsRegular, Numbers}
 use Rattle.model.proofs.Demand3Proof.{fresh-can}
 use Rattle.model.proofs.SafeStep.{never-stuck}
 use Rattle.model.proofs.Kept.{fresh-regular, stays-regular}
-use Rattle.runs.specs.Record.{recordFits}
-use Rattle.runs.specs.RecordPromises.{CanBe}
+use Rattle.records.specs.Record.{recordFits}
+use Rattle.records.specs.RecordPromises.{CanBe}
 use Rattle.runs.specs.Checks.{runChecks}
 use Rattle.runs.specs.Answers.{ranSaid, freshSaid, continuedSaid}
 use Rattle.runs.specs.Answers.Said.{refusal}
 use Rattle.runs.specs.Promises.{SaysEnd, FreshEnds, ContinuedEnds}
-use Rattle.runs.proofs.RecordLaws.{fits-can, can-fits}
+use Rattle.records.proofs.RecordLaws.{fits-can, can-fits}
 use Rattle.runs.proofs.LendLaws.{passes-sized, refuses-sized}
 
 module _ (m : MachineKind) (ps : List ℕ) (ok : acceptedPlaces ps ≡ true) (t : List ℕ) (pass : tableCheck m t ≡ Passes) (l : List ℕ) (nl : Numbers l)
@@ -83,7 +83,7 @@ fresh-ends m ps ok t pass cells l nl limit = record {
   cannot = λ e h. absurd (h tt);
   ends = λ e h.
       subst (SaysEnd m ps (tableOf t) l) (sym (fresh-is m ps ok t pass l nl limit cells (passes-sized m ps t (length cells) pass ok e) refl))
-      (runs-well m ps ok t pass l nl limit (fresh ps m (tableOf t)) (record { can = fresh-can ps m (tableOf t); regular = fresh-regular ps m (tableOf t) }));
+      (runs-well m ps ok t pass l nl limit (fresh ps m (tableOf t)) (record { can = fresh-can ps m (tableOf t); regular = fresh-regular ps m (tableOf t) (accepted m t (passing m t pass)) }));
 }
 
 pub continued-ends : ContinuedEnds

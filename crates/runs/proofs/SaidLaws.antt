@@ -9,19 +9,19 @@ use lib.ListN.{length, length-drop}
 use Rattle.runs.specs.Ends.{reportOf}
 use Rattle.table.specs.declared.Verdict.{Verdict}
 use Rattle.table.specs.declared.Verdict.the-variants.{Passes, Refused}
-use Rattle.table.specs.Checks.{machineOf}
+use Rattle.kinds.specs.Kinds.{machineOf}
 use Rattle.model.specs.Table.{tableOf}
 use Rattle.model.specs.Class.{pair}
 use Rattle.model.specs.State.{fresh, placesIn}
 use Rattle.model.specs.Step.{Report, run}
 use Rattle.model.specs.Demand3.{choicesUsed}
-use Rattle.machine.specs.declared.Machine.{Machine}
+use Rattle.machine.specs.declared.Record.{Record}
 use Rattle.prepared.specs.declared.Frame.{Frame}
 use Rattle.prepared.specs.View.{places, kindOf, tableFor}
 use Rattle.machine.specs.View.{stateOf}
 use Rattle.runs.specs.declared.Ran.{Ran}
 use Rattle.runs.specs.declared.Answered.{Answered}
-use Rattle.runs.specs.Record.{recordFits}
+use Rattle.records.specs.Record.{recordFits}
 use Rattle.runs.specs.CodeSteps.{Reports}
 use Rattle.runs.specs.Checks.{frameOf, runChecks}
 use Rattle.runs.specs.Answers.{saidOf, ranSaid, freshSaid, continuedSaid}
@@ -49,7 +49,7 @@ module _ (t : List ℕ) (classes : Bool) (c1 c2 : ℕ) (l cells : List ℕ) (lim
   unfolding freshSaid
   fresh-refused a e w = rw (w, ← q, e)
 
-  pub continued-refused : (a : Answered) (m : Machine) {number place : ℕ} → v ≡ Refused number place → a .verdict ≡ v
+  pub continued-refused : (a : Answered) (m : Record) {number place : ℕ} → v ≡ Refused number place → a .verdict ≡ v
       → saidOf t fr l a cells ≡ continuedSaid (machineOf classes) ps t (stateOf t fr m cells) l limit
   unfolding continuedSaid
   continued-refused a m e w = rw (w, ← q, e)
@@ -63,7 +63,7 @@ module _ (t : List ℕ) (classes : Bool) (c1 c2 : ℕ) (l cells : List ℕ) (lim
     unfolding freshSaid places
     fresh-ran R = passes ∙ reported t f l r cells′ _ R ∙ rw (i, ← q, p)
 
-    pub continued-ran : (m : Machine) → recordFits (kindOf f) (places f) (tableFor t f) (stateOf t f m cells) ≡ true
+    pub continued-ran : (m : Record) → recordFits (kindOf f) (places f) (tableFor t f) (stateOf t f m cells) ≡ true
         → Reports t f l r cells′ (run (places f) (tableFor t f) limit 0 (stateOf t f m cells) l)
         → saidOf t fr l a cells′ ≡ continuedSaid (machineOf classes) ps t (stateOf t fr m cells) l limit
     unfolding continuedSaid places tableOf
@@ -77,7 +77,7 @@ module _ (t : List ℕ) (classes : Bool) (c1 c2 : ℕ) (l cells : List ℕ) (lim
         same : goal fr
         same fits = rw (← q, p, fits)
 
-  pub continued-broken : v ≡ Passes → (f : Frame) → f ≡ fr → (m : Machine) → recordFits (kindOf f) (places f) (tableFor t f) (stateOf t f m cells) ≡ false
+  pub continued-broken : v ≡ Passes → (f : Frame) → f ≡ fr → (m : Record) → recordFits (kindOf f) (places f) (tableFor t f) (stateOf t f m cells) ≡ false
       → (a : Answered) → a .verdict ≡ Refused 15 0 → saidOf t fr l a cells ≡ continuedSaid (machineOf classes) ps t (stateOf t fr m cells) l limit
   unfolding continuedSaid places tableOf
   continued-broken p f i m broken a w =

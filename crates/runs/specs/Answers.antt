@@ -12,8 +12,7 @@ use Rattle.model.specs.Step.{Report, run}
 use Rattle.model.specs.Demand3.{choicesUsed}
 use Rattle.prepared.specs.declared.Frame.{Frame}
 use Rattle.runs.specs.declared.Answered.{Answered}
-use Rattle.runs.specs.Record.{recordCheck}
-use Rattle.runs.specs.Checks.{runChecks}
+use Rattle.runs.specs.Checks.{runChecks, recordCheck}
 
 -- a refusal, with its number and place and the cells at exit; or a run's report, which has end, steps, the record and the cells at exit,
 -- and the choices used

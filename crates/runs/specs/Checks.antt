@@ -1,15 +1,17 @@
--- What a run checks of what it is lent but for the record, and the frame of a table.
+-- What a run checks of what it is lent, and the frame of a table.
 use Prim.Native.Nat.{ℕ}
 use mathlib.Core.Bool.{Bool}
 use mathlib.Core.List.{List}
 use Rattle.table.specs.declared.Verdict.{Verdict}
-use Rattle.table.specs.declared.Verdict.the-variants.{Passes}
+use Rattle.table.specs.declared.Verdict.the-variants.{Passes, Refused}
 use Rattle.table.specs.Checks.{tableCheck, andThen, sizeCheck}
-use Rattle.model.specs.Table.{count, isDeclaration, isNode, isRow}
-use Rattle.model.specs.State.{MachineKind, cellCount}
+use Rattle.lists.specs.If.{if_then_else_}
+use Rattle.model.specs.Table.{Table, count, isDeclaration, isNode, isRow}
+use Rattle.model.specs.State.{MachineKind, State, cellCount}
 use Rattle.model.specs.State.MachineKind.{plain, reduced}
 use Rattle.reduction.specs.Reduction.{placesCheck}
 use Rattle.prepared.specs.declared.Frame.{Frame}
+use Rattle.records.specs.Record.{recordFits}
 
 -- the plain machine tracks no place, and has none checked
 abbrev pub placesFor : MachineKind → List ℕ → Verdict
@@ -28,3 +30,7 @@ frameOf t classes c1 c2 = record {
   classes = classes;
   counts = record { decls = count isDeclaration t; nodes = count isNode t; rows = count isRow t };
 }
+
+-- 15, at place 0 (rules 6.3, 6.20)
+abbrev pub recordCheck : MachineKind → List ℕ → Table → State → Verdict
+recordCheck m ps t s = if recordFits m ps t s then Passes else Refused 15 0

@@ -10,4 +10,4 @@ use Rattle.machine.specs.View.{endOf, stateOf}
 
 -- end, steps, the record with the cells, and the choices left
 abbrev pub reportOf : List ℕ → Frame → List ℕ → Ran → List ℕ → Report
-reportOf t f l r cells = ended (endOf (r .end)) (r .steps) (stateOf t f (r .machine) cells) (drop (r .used) l)
+reportOf t f l r cells = ended (endOf (r .end)) (r .steps) (stateOf t f (r .«record») cells) (drop (r .used) l)

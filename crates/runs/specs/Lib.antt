@@ -1,7 +1,4 @@
--- The runs: check 15, what a run is lent and hands back, what it says to the user, and what is proved of it.
-pub mod Record
-pub mod CodeRecord
-pub mod RecordPromises
+-- The runs: what a run is lent and hands back, what it says to the user, and what is proved of it.
 pub mod Checks
 pub mod Ends
 pub mod CodeSteps

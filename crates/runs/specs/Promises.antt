@@ -13,8 +13,8 @@ use Rattle.model.specs.State.{MachineKind, State, cellCount}
 use Rattle.model.specs.Step.{End}
 use Rattle.model.specs.Step.Report.{ended, noEnd}
 use Rattle.model.specs.Demand3.{Leaves, MachineEnd, Numbers}
-use Rattle.runs.specs.Record.{recordFits}
-use Rattle.runs.specs.RecordPromises.{CanBe}
+use Rattle.records.specs.Record.{recordFits}
+use Rattle.records.specs.RecordPromises.{CanBe}
 use Rattle.runs.specs.Answers.{Said, freshSaid, continuedSaid}
 use Rattle.runs.specs.Answers.Said.{refusal, reports}
 

@@ -3,6 +3,7 @@ use crate::Answered;
 use crate::Ran;
 use machine::End;
 use machine::Machine;
+use machine::Record;
 use prepared::Frame;
 use reduction::check_pair;
 use table::Verdict;
@@ -10,7 +11,8 @@ use table::check_table;
 use table::sorts::counts_of;
 ghost use mathlib.Core.Path.{_≡_};
 ghost use lib.ListN.{length};
-ghost use Rattle.table.specs.Checks.{machineOf, sizeCheck};
+ghost use Rattle.table.specs.Checks.{sizeCheck};
+ghost use Rattle.kinds.specs.Kinds.{machineOf};
 ghost use Rattle.model.specs.Class.{pair};
 ghost use Rattle.model.specs.State.{cellCount, placesIn};
 ghost use Rattle.runs.specs.Checks.{frameOf, placesFor, runChecks};
@@ -77,12 +79,12 @@ pub fn check_run(t: &[u32], cells: &[u32], classes: bool, c1: u32, c2: u32) -> V
 pub fn refused(verdict: Verdict) -> Answered
     ensures { λ r. ⌜ r .verdict ≡ verdict ⌝ }
 {
-    let machine = Machine::blank();
+    let record = Record::blank();
     let ran = Ran {
         end: End::Done,
         steps: 0,
         used: 0,
-        machine,
+        record,
     };
     Answered { verdict, ran }
 }

@@ -5,12 +5,12 @@ use crate::checks::check_run;
 use crate::checks::frame_of;
 use crate::checks::refused;
 use crate::steps::run_from;
-use machine::Machine;
+use machine::Record;
 use prepared::Frame;
 use machine::steps::zero_all;
 use table::Verdict;
 ghost use mathlib.Core.Path.{_≡_};
-ghost use Rattle.table.specs.Checks.{machineOf};
+ghost use Rattle.kinds.specs.Kinds.{machineOf};
 ghost use Rattle.model.specs.Table.{tableOf};
 ghost use Rattle.model.specs.Class.{pair};
 ghost use Rattle.model.specs.State.{fresh, placesIn};
@@ -27,8 +27,8 @@ fn start(t: &[u32], cells: &mut [u32], list: &[u32], f: Frame, limit: u32) -> Ra
         (places f) (kindOf f) (tableOf (now (t .entry)))) (now (list .entry))) ⌝ }
 {
     zero_all(cells);
-    let m = Machine::fresh(t, f);
-    run_from(m, t, cells, list, f, limit)
+    let r = Record::fresh(t, f);
+    run_from(r, t, cells, list, f, limit)
 }
 
 // A fresh run of either machine.

@@ -2,14 +2,12 @@
 pub mod checks;
 mod continued;
 mod fresh;
-mod loops;
-pub mod records;
 pub mod steps;
 
 use continued::continued_run;
 use fresh::fresh_run;
 use machine::End;
-use machine::Machine;
+use machine::Record;
 use table::Verdict;
 ghost use mathlib.Core.Path.{_≡_};
 ghost use mathlib.Core.Bool.{true, false};
@@ -26,7 +24,7 @@ pub struct Ran {
     pub end: End,
     pub steps: u32,
     pub used: u64,
-    pub machine: Machine,
+    pub record: Record,
 }
 
 // The answer of a run or of the choice writer: whether it was refused; what the run came to is no part of a refusal.
@@ -37,18 +35,18 @@ pub struct Answered {
 
 // A fresh run of the plain machine on a table, in lent cells, with a limit of steps.
 pub fn run_plain(t: &[u32], cells: &mut [u32], limit: u32) -> Answered
-    ensures { λ r. ⌜ saidOf (now (t .entry)) (frameOf (now (t .entry)) false 0 0) [] r (now (cells .exit)) ≡ freshSaid plain [] (now (t .entry))
+    ensures { λ a. ⌜ saidOf (now (t .entry)) (frameOf (now (t .entry)) false 0 0) [] a (now (cells .exit)) ≡ freshSaid plain [] (now (t .entry))
         (now (cells .entry)) [] limit ⌝ }
 {
     fresh_run(t, cells, &t[..0], false, 0, 0, limit)
 }
 
 // A run of the plain machine from a record on.
-pub fn continue_plain(m: Machine, t: &[u32], cells: &mut [u32], limit: u32) -> Answered
-    ensures { λ r. ⌜ saidOf (now (t .entry)) (frameOf (now (t .entry)) false 0 0) [] r (now (cells .exit)) ≡ continuedSaid plain [] (now (t .entry))
-        (stateOf (now (t .entry)) (frameOf (now (t .entry)) false 0 0) m (now (cells .entry))) [] limit ⌝ }
+pub fn continue_plain(r: Record, t: &[u32], cells: &mut [u32], limit: u32) -> Answered
+    ensures { λ a. ⌜ saidOf (now (t .entry)) (frameOf (now (t .entry)) false 0 0) [] a (now (cells .exit)) ≡ continuedSaid plain [] (now (t .entry))
+        (stateOf (now (t .entry)) (frameOf (now (t .entry)) false 0 0) r (now (cells .entry))) [] limit ⌝ }
 {
-    continued_run(m, t, cells, &t[..0], false, 0, 0, limit)
+    continued_run(r, t, cells, &t[..0], false, 0, 0, limit)
 }
 
 // A fresh run of the reduced machine on a reduced table, for a pair of places, under a list of choices.
@@ -60,7 +58,7 @@ pub fn run_reduced(
     list: &[u32],
     limit: u32,
 ) -> Answered
-    ensures { λ r. ⌜ saidOf (now (t .entry)) (frameOf (now (t .entry)) true c1 c2) (now (list .entry)) r (now (cells .exit)) ≡ freshSaid reduced
+    ensures { λ a. ⌜ saidOf (now (t .entry)) (frameOf (now (t .entry)) true c1 c2) (now (list .entry)) a (now (cells .exit)) ≡ freshSaid reduced
         (pair c1 c2) (now (t .entry)) (now (cells .entry)) (now (list .entry)) limit ⌝ }
 {
     fresh_run(t, cells, list, true, c1, c2, limit)
@@ -68,7 +66,7 @@ pub fn run_reduced(
 
 // A run of the reduced machine from a record on.
 pub fn continue_reduced(
-    m: Machine,
+    r: Record,
     t: &[u32],
     c1: u32,
     c2: u32,
@@ -76,9 +74,9 @@ pub fn continue_reduced(
     list: &[u32],
     limit: u32,
 ) -> Answered
-    ensures { λ r. ⌜ saidOf (now (t .entry)) (frameOf (now (t .entry)) true c1 c2) (now (list .entry)) r (now (cells .exit)) ≡ continuedSaid reduced
-        (pair c1 c2) (now (t .entry)) (stateOf (now (t .entry)) (frameOf (now (t .entry)) true c1 c2) m (now (cells .entry))) (now
+    ensures { λ a. ⌜ saidOf (now (t .entry)) (frameOf (now (t .entry)) true c1 c2) (now (list .entry)) a (now (cells .exit)) ≡ continuedSaid reduced
+        (pair c1 c2) (now (t .entry)) (stateOf (now (t .entry)) (frameOf (now (t .entry)) true c1 c2) r (now (cells .entry))) (now
         (list .entry)) limit ⌝ }
 {
-    continued_run(m, t, cells, list, true, c1, c2, limit)
+    continued_run(r, t, cells, list, true, c1, c2, limit)
 }

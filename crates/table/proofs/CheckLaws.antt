@@ -14,14 +14,16 @@ use Rattle.lists.proofs.FirstLaws.{first-nowhere-at}
 use Rattle.model.specs.Table.{Table, tableOf}
 use Rattle.model.specs.State.{MachineKind}
 use Rattle.model.specs.Accepted.{nodeThere, rowThere, misnested}
+use Rattle.kinds.specs.declared.Counts.{Counts}
+use Rattle.kinds.specs.Kinds.{machineOf}
+use Rattle.kinds.specs.Code.{tableBy, InSorts, There}
+use Rattle.kinds.proofs.LineLaws.{at-node, at-row, no-row}
+use Rattle.procedures.specs.Misplaced.{breaks17}
 use Rattle.table.specs.declared.Verdict.the-variants.{Passes, Refused}
-use Rattle.table.specs.declared.Counts.{Counts}
 use Rattle.table.specs.Rules.{breaks8, breaks10, breaks11, breaks16}
-use Rattle.table.specs.Checks.{machineOf, breaks, firstRefusal, tableCheck}
-use Rattle.table.specs.Code.{countsOf, tableBy, firstOf, InSorts, There, WellNested}
+use Rattle.table.specs.Checks.{breaks, firstRefusal, tableCheck}
+use Rattle.table.specs.Code.{countsOf, firstOf, WellNested}
 use Rattle.table.proofs.Sizes.{all-lines, declaration-at, node-at, row-at, sizes}
-use Rattle.table.proofs.CodeLaws.{at-node, at-row}
-use Rattle.table.proofs.LoopLaws.{no-row}
 
 module _ (f : ℕ → Found) where
   pub none : firstRefusal f [] ≡ Passes
@@ -58,7 +60,7 @@ module _ (f : ℕ → Found) where
       go (At j) q more = stop x (xs ++ ys) j q ∙ sym (stop x xs j q) ∙ e
       go Nothing q more = pass x (xs ++ ys) q ∙ more (sym (pass x xs q) ∙ e)
 
--- 10, 11 and 16 are the same of plain and reduced tables
+-- 10, 11, 16 and 17 are the same of plain and reduced tables
 pub ten : (r : Bool) (w : List ℕ) (c : Counts) → firstOf 10 r w c ≡ first (breaks10 (tableBy w c)) 0 (length w / 4)
 unfolding breaks
 ten r w c = refl
@@ -70,6 +72,10 @@ eleven r w c = refl
 pub sixteen : (r : Bool) (w : List ℕ) (c : Counts) → firstOf 16 r w c ≡ first (breaks16 (tableBy w c)) 0 (length w / 4)
 unfolding breaks
 sixteen r w c = refl
+
+pub seventeen : (r : Bool) (w : List ℕ) (c : Counts) → firstOf 17 r w c ≡ first (breaks17 (tableBy w c)) 0 (length w / 4)
+unfolding breaks
+seventeen r w c = refl
 
 -- ---- what 4, 5 and 6 leave
 
@@ -136,7 +142,7 @@ abbrev pub early : List ℕ
 early = 5 ∷ 6 ∷ 7 ∷ 8 ∷ []
 
 abbrev pub late : List ℕ
-late = 9 ∷ 10 ∷ 11 ∷ 12 ∷ 16 ∷ []
+late = 9 ∷ 10 ∷ 11 ∷ 12 ∷ 16 ∷ 17 ∷ []
 
 pub whole-check : (r : Bool) (w : List ℕ) (c : Counts) → length w % 4 ≡ 0 → c ≡ countsOf w
     → tableCheck (machineOf r) w ≡ firstRefusal (λ k. firstOf k r w c) (early ++ late)

@@ -14,9 +14,11 @@ use Rattle.lists.specs.If.{if_then_else_}
 use Rattle.lists.proofs.FallingLaws.{value-is}
 use Rattle.model.specs.Table.{Table, nodeAt, nodeKind, Role, nodeRoles}
 use Rattle.model.specs.Table.Role.{unused, flag, number, aVariable, aNode}
-use Rattle.table.specs.Rules.{operandDepth, depthBy, depth, rolesOf}
-use Rattle.table.specs.Code.{roleNumber, InSorts, Kept, depthUnder}
-use Rattle.table.proofs.CodeLaws.{roles-node}
+use Rattle.kinds.specs.Kinds.{rolesOf}
+use Rattle.kinds.specs.Code.{roleNumber, InSorts}
+use Rattle.kinds.proofs.LineLaws.{roles-node}
+use Rattle.table.specs.Rules.{operandDepth, depthBy, depth}
+use Rattle.table.specs.Code.{Kept, depthUnder}
 
 operand-by : (r : Role) (below : ℕ → ℕ) (x : ℕ) → operandDepth r below x ≡ (if eqb (roleNumber r) 4 then below x else 0)
 operand-by unused below x = refl

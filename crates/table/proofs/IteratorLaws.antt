@@ -14,8 +14,9 @@ use Rattle.lists.specs.If.{if_then_else_}
 use Rattle.model.specs.Table.{Table, rowAt, Nest, nestAt, nested, openAt}
 use Rattle.model.specs.Table.Nest.{opens, closes, neither}
 use Rattle.model.specs.Accepted.{misnested, mostOpen}
+use Rattle.kinds.specs.Code.{nestNumber, nest, openAfter}
 use Rattle.table.specs.Rules.{any, openedWith, opensLoop, sharesIterator}
-use Rattle.table.specs.Code.{nestNumber, nest, openAfter, keptRows}
+use Rattle.table.specs.Code.{keptRows}
 use Rattle.table.proofs.LoopLaws.{few-open}
 
 -- ---- the rows kept
@@ -84,16 +85,16 @@ module _ (t : Table) (r q : ℕ) (e : q ≡ nest (rowAt t r .kind)) where
     pub few-kept : misnested t r ≡ false → q ≡ 1 → n < mostOpen
     few-kept h o = omega (arith, few-open t r h (at-opening o), sym (kept-length b n) ∙ ap length k)
 
-    -- whether it breaks 16
-    pub shares-by : q ≡ 1 → sharesIterator t 0 r ≡ any (openedWith t 0 (rowAt t r .a)) (keptRows b n)
+    -- whether it breaks 16, since a row
+    pub shares-by : (since : ℕ) → q ≡ 1 → sharesIterator t since r ≡ any (openedWith t since (rowAt t r .a)) (keptRows b n)
     unfolding sharesIterator
-    shares-by h = rw (at-opening h, k)
+    shares-by since h = rw (at-opening h, k)
 
-    pub shares-none : (q ≡ 1 → ⊥) → sharesIterator t 0 r ≡ false
+    pub shares-none : (since : ℕ) → (q ≡ 1 → ⊥) → sharesIterator t since r ≡ false
     unfolding sharesIterator nest
-    shares-none h = go (nestAt t r) (λ w. h (e ∙ w))
+    shares-none since h = go (nestAt t r) (λ w. h (e ∙ w))
       where
-        go : (m : Nest) → (nestNumber m ≡ 1 → ⊥) → (opensLoop m && any (openedWith t 0 (rowAt t r .a)) (openAt t r)) ≡ false
+        go : (m : Nest) → (nestNumber m ≡ 1 → ⊥) → (opensLoop m && any (openedWith t since (rowAt t r .a)) (openAt t r)) ≡ false
         go opens h = absurd (h refl)
         go closes h = refl
         go neither h = refl

@@ -1,32 +1,37 @@
--- Check 16 by where loops close: the loops open at a row are those around it.
+-- Check 16 by where loops close and what they stand in: the loops open at a row are those around it.
 -- Assumes nothing.
 use Prim.Native.Nat.{ℕ, zero, suc, _+_, _-_, _/_, _%_, _<_, _≤_}
 use native.Mathlib.Omega.{arith}
+use native.Mathlib.Decide.{decLe}
 use mathlib.Core.Path.{_≡_, refl, sym, ap, _∙_, subst}
 use mathlib.Core.Bool.{Bool, true, false, _||_, false≢true, true≢false}
 use mathlib.Core.List.{List, [], _∷_, _++_}
 use lib.ListN.{length}
 use lib.Dec.{leb, eqb}
-use borrow.Author.Tests.{eqb-true, eqb-false, eq-eqb, ne-eqb, le-leb}
+use borrow.Author.Tests.{eqb-true, eqb-false, eq-eqb, ne-eqb, le-leb, leb-true}
 use Rattle.lists.specs.If.{if_then_else_}
 use Rattle.lists.specs.First.{walk, first}
 use Rattle.lists.specs.declared.Found.{Found}
 use Rattle.lists.specs.declared.Found.the-variants.{At, Nothing}
 use Rattle.lists.proofs.BoolLaws.{and-left, and-right}
-use Rattle.model.specs.Table.{Table, tableOf, rowAt, Nest, nestAt, nested, scanned, matchingEnd, openAt}
+use Rattle.model.specs.Table.{Table, tableOf, rowAt, Nest, nestAt, nested, scanned, matchingEnd, openAt, isOpening, home}
 use Rattle.model.specs.Table.Nest.{opens, closes, neither}
 use Rattle.model.specs.State.{MachineKind}
-use Rattle.model.proofs.Nested.{Chain, chain, from}
+use Rattle.model.proofs.Homes.{Home, home-is}
+use Rattle.model.proofs.Homes.Home.{ofMain, ofProcedure}
+use Rattle.model.proofs.Nested.{AllIn, Chain, Nested, chain, from, loops-in}
+use Rattle.model.proofs.Typing.{is-nested}
+use Rattle.kinds.specs.Kinds.{ofRow}
+use Rattle.kinds.specs.Code.{InSorts}
+use Rattle.kinds.proofs.LineLaws.{no-row, row-found, rows-none}
 use Rattle.table.specs.declared.Verdict.the-variants.{Passes, Refused}
-use Rattle.table.specs.Rules.{any, openedWith, opensLoop, sharesIterator, breaks16, ofRow}
+use Rattle.table.specs.Rules.{any, openedWith, opensLoop, sharesIterator, breaks16}
 use Rattle.table.specs.Checks.{breaks, firstRefusal, refusedAtLine, order, checkedBy, tableCheck}
 use Rattle.table.specs.Iterators.{Around, Shares, PassingSharesNone, FirstShares, SixteenAtInner, before16, SharingRefused, ApartPasses}
 use Rattle.table.specs.Iterators.{AllDiffer, iteratorsOf, OpenDiffer}
-use Rattle.table.specs.Code.{InSorts}
 use Rattle.table.proofs.Sizes.{or-left, or-right}
-use Rattle.table.proofs.LoopLaws.{no-row, row-found, rows-none}
 use Rattle.table.proofs.CheckLaws.{laid, none as none-left, pass, passed, stop, then-more}
-use Rattle.table.proofs.Passing.{passing, row-apart}
+use Rattle.table.proofs.Passing.{accepted, passing, row-apart}
 
 -- ---- a test of a list
 
@@ -152,19 +157,46 @@ module _ (t : Table) where
   opens-loop closes h = absurd (false≢true h)
   opens-loop neither h = absurd (false≢true h)
 
-  shares-found : (r : ℕ) → r ≤ t .rows → sharesIterator t 0 r ≡ true → (o : ℕ) × Shares t o r
+  -- a loop opened since the first row of what row r belongs to stands in that, and no other does
+  home-low : (r : ℕ) → home t r ≤ r
+  home-low r = go (home t r) (home-is t r)
+    where
+      go : (h : ℕ) → Home t r h → h ≤ r
+      go h ofMain = omega arith
+      go h (ofProcedure q l e) = l
+
+  home-since : (r o : ℕ) → o ≤ r → home t r ≤ o → home t o ≡ home t r
+  unfolding home
+  home-since zero o l h = ap (home t) {x = o} {y = 0} (omega arith)
+  home-since (suc r) o l h = elim (decLe o r) [
+    | yes k ↦ go (isOpening t r) h k (home-since r o k)
+    | no k ↦ ap (home t) {x = o} {y = suc r} (omega arith)
+  ]
+    where
+      go : (b : Bool) → (if b then suc r else home t r) ≤ o → o ≤ r → (home t r ≤ o → home t o ≡ home t r) → home t o ≡ (if b then suc r else home t r)
+      go true h k ih = absurd (omega arith)
+      go false h k ih = ih h
+
+  abbrev shared : ℕ → Bool
+  shared r = sharesIterator t (home t r) r
+
+  shares-found : (r : ℕ) → r ≤ t .rows → shared r ≡ true → (o : ℕ) × Shares t o r
   unfolding sharesIterator
   shares-found r l e =
-      let H = any-held (openedWith t 0 (rowAt t r .a)) (openAt t r) (and-right (opensLoop (nestAt t r)) _ e) in (
-        H .item,
+      let H = any-held (openedWith t (home t r) (rowAt t r .a)) (openAt t r) (and-right (opensLoop (nestAt t r)) _ e) in
+      let o = H .item in
+      let A = open-around r o (H .before) (H .after) l (H .is) in
+      let since : home t r ≤ o = leb-true (home t r) o (and-left (leb (home t r) o) (eqb (rowAt t o .a) (rowAt t r .a)) (H .holds)) in (
+        o,
         record {
-          around = open-around r (H .item) (H .before) (H .after) l (H .is);
+          around = A;
           opening = opens-loop (nestAt t r) (and-left (opensLoop (nestAt t r)) _ e);
-          iterator = sym (eqb-true (rowAt t (H .item) .a) (rowAt t r .a) (and-right (leb 0 (H .item)) _ (H .holds)));
+          together = home-since r o (omega (arith, A .after)) since;
+          iterator = sym (eqb-true (rowAt t o .a) (rowAt t r .a) (and-right (leb (home t r) o) _ (H .holds)));
         },
       )
 
-  shares-holds : (o r : ℕ) → r ≤ t .rows → Shares t o r → sharesIterator t 0 r ≡ true
+  shares-holds : (o r : ℕ) → r ≤ t .rows → Shares t o r → shared r ≡ true
   unfolding sharesIterator
   shares-holds o r l S =
       let A = S .around in
@@ -172,8 +204,8 @@ module _ (t : Table) where
       let at : suc o + k ≡ r = omega (arith, A .after) in
       let I : IsOpen o r = subst (IsOpen o) at (stays-open o (A .opened) k (omega arith) (omega (arith, A .within))) in
       rw (S .opening, I .is)
-      (any-at (openedWith t 0 (rowAt t r .a)) (I .inside) o (openAt t o)
-      (rw (le-leb 0 o (omega arith), eq-eqb (rowAt t o .a) (rowAt t r .a) (sym (S .iterator)))))
+      (any-at (openedWith t (home t r) (rowAt t r .a)) (I .inside) o (openAt t o)
+      (rw (le-leb (home t r) o (omega (arith, home-low o, S .together)), eq-eqb (rowAt t o .a) (rowAt t r .a) (sym (S .iterator)))))
 
 -- ---- what passing says
 
@@ -181,25 +213,31 @@ pub passing-shares-none : PassingSharesNone
 passing-shares-none m w e o r l S =
     true≢false (sym (shares-holds (tableOf w) o r (omega arith) S) ∙ row-apart m w (passing m w e) r l)
 
--- none of these loops has the iterator
-no-other : (t : Table) (v : ℕ) (os : List ℕ) → any (openedWith t 0 v) os ≡ false → any (eqb v) (iteratorsOf t os) ≡ false
+-- none of these loops, all in the procedure q, has the iterator
+no-other : (t : Table) (q v : ℕ) (os : List ℕ) → AllIn t q os → any (openedWith t q v) os ≡ false → any (eqb v) (iteratorsOf t os) ≡ false
 unfolding any
-no-other t v [] e = refl
-no-other t v (o ∷ os) e =
-    let here : eqb (rowAt t o .a) v ≡ false = rw (le-leb 0 o (omega arith)) at (or-left (openedWith t 0 v o) (any (openedWith t 0 v) os) e) in
-    rw (ne-eqb v (rowAt t o .a) (λ q. eqb-false (rowAt t o .a) v here (sym q)))
-    (no-other t v os (or-right (openedWith t 0 v o) (any (openedWith t 0 v) os) e))
+no-other t q v [] a e = refl
+no-other t q v (o ∷ os) (in-q, rest) e =
+    let since : leb q o ≡ true = le-leb q o (omega (arith, home-low t o)) in
+    let here : eqb (rowAt t o .a) v ≡ false = rw since at (or-left (openedWith t q v o) (any (openedWith t q v) os) e) in
+    rw (ne-eqb v (rowAt t o .a) (λ z. eqb-false (rowAt t o .a) v here (sym z)))
+    (no-other t q v os rest (or-right (openedWith t q v o) (any (openedWith t q v) os) e))
 
 -- the iterators of a chain of loops, each opened where those after it were open
-chain-differs : (t : Table) → ((r : ℕ) → r < t .rows → sharesIterator t 0 r ≡ false) → (os : List ℕ) → Chain t os → AllDiffer (iteratorsOf t os)
+chain-differs : (t : Table) → Nested t → ((r : ℕ) → r < t .rows → sharesIterator t (home t r) r ≡ false) → (os : List ℕ) → Chain t os
+    → AllDiffer (iteratorsOf t os)
 unfolding sharesIterator
-chain-differs t apart [] c = tt
-chain-differs t apart (o ∷ os) (l, h, e, rest) =
-    let alone : any (openedWith t 0 (rowAt t o .a)) os ≡ false = rw (h, e) at (apart o l) in
-    (no-other t (rowAt t o .a) os alone, chain-differs t apart os rest)
+chain-differs t N apart [] c = tt
+chain-differs t N apart (o ∷ os) (l, h, e, rest) =
+    let alone : any (openedWith t (home t o) (rowAt t o .a)) os ≡ false = rw (h, e) at (apart o l) in
+    let near : AllIn t (home t o) os = subst (AllIn t (home t o)) e (loops-in t N o (omega arith)) in
+    (no-other t (home t o) (rowAt t o .a) os near alone, chain-differs t N apart os rest)
 
 pub open-differ : OpenDiffer
-open-differ m w e r l = chain-differs (tableOf w) (row-apart m w (passing m w e)) (openAt (tableOf w) r) (chain (tableOf w) r l)
+open-differ m w e r l =
+    let t = tableOf w in
+    let P = passing m w e in
+    chain-differs t (is-nested m t (accepted m w P)) (row-apart m w P) (openAt t r) (chain t r l)
 
 -- ---- what 16 says
 
@@ -236,9 +274,9 @@ sixteen-at-inner m w line e = go (eqb (length w % 4) 0) refl e
     find : ℕ → Found
     find k = first (breaks k m t) 0 (length w / 4)
 
-    found : InSorts t → first (ofRow (sharesIterator t 0) t) 0 (length (t .words) / 4) ≡ At line → FirstShares t line
+    found : InSorts t → first (ofRow (shared t) t) 0 (length (t .words) / 4) ≡ At line → FirstShares t line
     found laid h =
-        let R = row-found (sharesIterator t 0) t laid line h in
+        let R = row-found (shared t) t laid line h in
         let S = shares-found t (R .row) (omega (arith, R .there)) (R .holds) in
         record {
           outer = S .0;
@@ -263,20 +301,19 @@ module _ (m : MachineKind) (w : List ℕ) (p : checkedBy before16 m w ≡ Passes
   table = tableOf w
 
   -- no row breaks 16 that opens no loop inside one with its iterator
-  apart : (r : ℕ) → r ≤ table .rows → ((o : ℕ) → Shares table o r → ⊥) → sharesIterator table 0 r ≡ false
-  apart r l none = go (sharesIterator table 0 r) refl
+  apart : (r : ℕ) → r ≤ table .rows → ((o : ℕ) → Shares table o r → ⊥) → shared table r ≡ false
+  apart r l none = go (shared table r) refl
     where
-      go : (b : Bool) → sharesIterator table 0 r ≡ b → b ≡ false
+      go : (b : Bool) → shared table r ≡ b → b ≡ false
       go true e = let S = shares-found table r l e in absurd (none (S .0) (S .1))
       go false e = refl
 
-  -- with the checks before 16 passed, the lines are in their sorts, and what is left is 16
+  -- with the checks before 16 passed, the lines are in their sorts, and what is left is 16, with what comes after it
   record Left : Type 0 where
     laid-out : InSorts table
-    rest : tableCheck m w ≡ firstRefusal (λ k. first (breaks k m table) 0 (length w / 4)) (16 ∷ [])
+    rest : (ks : List ℕ) → checkedBy (before16 ++ ks) m w ≡ firstRefusal (λ k. first (breaks k m table) 0 (length w / 4)) ks
 
   left : Left
-  unfolding tableCheck
   left = go (eqb (length w % 4) 0) refl p
     where
       find : ℕ → Found
@@ -288,27 +325,27 @@ module _ (m : MachineKind) (w : List ℕ) (p : checkedBy before16 m w ≡ Passes
           let p6 = passed find 6 _ (p5 .1) in
           record {
             laid-out = laid m w (eqb-true (length w % 4) 0 u) (p5 .0) (p6 .0);
-            rest = rw u (then-more find before16 (16 ∷ []) h);
+            rest = λ ks. rw u (then-more find before16 ks h);
           }
       go false u h = absurd (let z : _≡_ {A = ℕ} 0 1 = cc in omega arith)
 
 pub sharing-refused : SharingRefused
-unfolding breaks breaks16 tableOf
+unfolding tableCheck breaks breaks16 tableOf
 sharing-refused m w p o r l S = go (find 16) refl
   where
     find : ℕ → Found
     find k = first (breaks k m (tableOf w)) 0 (length w / 4)
 
     go : (f : Found) → find 16 ≡ f → (line : ℕ) × (tableCheck m w ≡ Refused 16 line)
-    go (At line) e = (line, left m w p .rest ∙ stop find 16 [] line e)
+    go (At line) e = (line, left m w p .rest (16 ∷ 17 ∷ []) ∙ stop find 16 (17 ∷ []) line e)
     go Nothing e =
-        let none = no-row (sharesIterator (tableOf w) 0) (tableOf w) (left m w p .laid-out) e r l in
+        let none = no-row (shared (tableOf w)) (tableOf w) (left m w p .laid-out) e r l in
         absurd (true≢false (sym (shares-holds (tableOf w) o r (omega arith) S) ∙ none))
 
 pub apart-passes : ApartPasses
 unfolding breaks breaks16 tableOf
 apart-passes m w p none =
     let L = left m w p in
-    L .rest
-    ∙ pass _ 16 [] (rows-none (sharesIterator (tableOf w) 0) (tableOf w) (L .laid-out) (λ r l. apart m w p r (omega arith) (λ o S. none o r l S)))
+    L .rest (16 ∷ [])
+    ∙ pass _ 16 [] (rows-none (shared (tableOf w)) (tableOf w) (L .laid-out) (λ r l. apart m w p r (omega arith) (λ o S. none o r l S)))
     ∙ none-left _

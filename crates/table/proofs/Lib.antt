@@ -4,7 +4,6 @@ pub mod Passing
 pub mod ReducedPasses
 pub mod PromiseProofs
 pub mod IteratorProofs
-pub mod KindLaws
 pub mod CodeLaws
 pub mod TypeLaws
 pub mod DepthLaws

@@ -10,18 +10,21 @@ use lib.Dec.{ltb, eqb}
 use borrow.Author.Tests.{eqb-true, ltb-false}
 use Rattle.lists.specs.declared.Found.{Found}
 use Rattle.lists.specs.declared.Found.the-variants.{Nothing}
-use Rattle.table.specs.declared.Verdict.{Verdict}
-use Rattle.table.specs.declared.Verdict.the-variants.{Passes, Refused}
 use Rattle.lists.specs.If.{if_then_else_}
 use Rattle.lists.specs.First.{first}
 use Rattle.lists.proofs.TabLaws.{all-true}
 use Rattle.lists.proofs.FirstLaws.{first-nowhere-at}
-use Rattle.model.specs.Table.{Table, lineAt, lineCount, nestAt, openAt, tableOf}
+use Rattle.model.specs.Table.{Table, lineAt, lineCount, nestAt, openAt, home, tableOf}
 use Rattle.model.specs.Table.Nest.{opens}
 use Rattle.model.specs.State.{MachineKind}
 use Rattle.model.specs.Step.{node}
+use Rattle.model.specs.Procedures.{keepsProcedures}
 use Rattle.model.specs.Accepted.{Accepted, known, misnested, mostOpen, nodeSuitsMark, nodeThere, nodeTyped, rowSuitsMark, rowThere, rowTyped}
-use Rattle.table.specs.Rules.{breaks10, breaks11, breaks12, breaks16, breaks8, breaks9, depth, mostDepth, ofNodeOrRow, sharesIterator}
+use Rattle.kinds.specs.Kinds.{ofNodeOrRow}
+use Rattle.procedures.specs.Misplaced.{breaks17}
+use Rattle.table.specs.declared.Verdict.{Verdict}
+use Rattle.table.specs.declared.Verdict.the-variants.{Passes, Refused}
+use Rattle.table.specs.Rules.{breaks10, breaks11, breaks12, breaks16, breaks8, breaks9, depth, mostDepth, sharesIterator}
 use Rattle.table.specs.Checks.{andThen, breaks, firstRefusal, order, sizeCheck, tableCheck}
 use Rattle.table.proofs.Sizes.{all-lines, line-known, no-declaration, no-node-at, node-at, not-false}
 use Rattle.table.proofs.LoopLaws.{few-open as few-open-at}
@@ -55,6 +58,7 @@ pub record Passing (m : MachineKind) (w : List ℕ) : Type 0 where
   pub none11 : Unbroken 11 m w
   pub none12 : Unbroken 12 m w
   pub none16 : Unbroken 16 m w
+  pub none17 : Unbroken 17 m w
 
 module _ (m : MachineKind) (w : List ℕ) where
   abbrev find : ℕ → Found
@@ -75,6 +79,7 @@ module _ (m : MachineKind) (w : List ℕ) where
           let p11 = passed find 11 _ (p10 .1) in
           let p12 = passed find 12 _ (p11 .1) in
           let p16 = passed find 16 _ (p12 .1) in
+          let p17 = passed find 17 _ (p16 .1) in
           record {
             whole = eqb-true (length w % 4) 0 u;
             none5 = p5 .0;
@@ -86,13 +91,14 @@ module _ (m : MachineKind) (w : List ℕ) where
             none11 = p11 .0;
             none12 = p12 .0;
             none16 = p16 .0;
+            none17 = p17 .0;
           }
       go false u h = absurd (let z : _≡_ {A = ℕ} 0 1 = cc in omega arith)
 
   -- and back
   pub passes : Passing m w → tableCheck m w ≡ Passes
   unfolding tableCheck firstRefusal
-  passes P = rw (P .whole, P .none5, P .none6, P .none7, P .none8, P .none9, P .none10, P .none11, P .none12, P .none16)
+  passes P = rw (P .whole, P .none5, P .none6, P .none7, P .none8, P .none9, P .none10, P .none11, P .none12, P .none16, P .none17)
 
   module _ (P : Passing m w) where
     abbrev t : Table
@@ -155,9 +161,14 @@ module _ (m : MachineKind) (w : List ℕ) where
     few-open r h e = few-open-at t r (row-nested r h) e
 
     -- 16, for those above who count on it
-    pub row-apart : (r : ℕ) → r < t .rows → sharesIterator t 0 r ≡ false
+    pub row-apart : (r : ℕ) → r < t .rows → sharesIterator t (home t r) r ≡ false
     unfolding breaks breaks16
-    row-apart r h = of-row (λ n. false) (sharesIterator t 0) r h (unbroken 16 (P .none16) (t .decls + t .nodes + r) (omega arith))
+    row-apart r h = of-row (λ n. false) (λ r. sharesIterator t (home t r) r) r h (unbroken 16 (P .none16) (t .decls + t .nodes + r) (omega arith))
+
+    row-placed : (r : ℕ) → r < t .rows → keepsProcedures t r ≡ true
+    unfolding breaks breaks17
+    row-placed r h = not-false (keepsProcedures t r)
+        (of-row (λ n. false) (λ r. not (keepsProcedures t r)) r h (unbroken 17 (P .none17) (t .decls + t .nodes + r) (omega arith)))
 
     node-suits-mark : (n : ℕ) → n < t .nodes → nodeSuitsMark m t n ≡ true
     unfolding breaks breaks12
@@ -181,4 +192,5 @@ module _ (m : MachineKind) (w : List ℕ) where
       rowsNested = all-true (t .rows) (λ r. not (misnested t r)) (λ r h. ap not (row-nested r h));
       nodesSuit = all-true (t .nodes) (nodeSuitsMark m t) node-suits-mark;
       rowsSuit = all-true (t .rows) (rowSuitsMark m t) row-suits-mark;
+      procedures = all-true (t .rows) (keepsProcedures t) row-placed;
     }

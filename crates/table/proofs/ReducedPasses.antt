@@ -13,19 +13,22 @@ use Rattle.lists.specs.First.{first}
 use Rattle.lists.specs.Falling.{valueAt}
 use Rattle.lists.proofs.FirstLaws.{first-nowhere}
 use Rattle.model.specs.Table.{Table, isDeclaration, isNode, lineAt, lineCount, marked, markedUint, nestAt, nodeAt, nodeKind, nodeRoles, openAt, rowAt}
-use Rattle.model.specs.Table.{rowKind, rowRoles, tableOf}
+use Rattle.model.specs.Table.{rowKind, rowRoles, home, tableOf}
 use Rattle.model.specs.State.MachineKind.{plain, reduced}
 use Rattle.model.specs.Eval.{below}
 use Rattle.model.specs.Step.{node}
 use Rattle.model.specs.Reduce.{reduce, reducedKind}
+use Rattle.model.specs.Procedures.{keepsProcedures}
 use Rattle.model.specs.Accepted.{Accepted, known, misnested, nodeSuitsMark, nodeThere, nodeTyped, rowSuitsMark, rowThere, rowTyped}
-use Rattle.model.proofs.KindsIn.{nest-same}
+use Rattle.model.proofs.KindsIn.{nest-same, same-home}
 use Rattle.model.proofs.ReduceLaws.{declaration-stays, length-reduce, new-node, new-row, reduce-a, reduce-b, reduce-c, reduce-kind, reducedTable}
 use Rattle.model.proofs.ReduceLaws.{same-declaration, same-isNode, same-isRow, table-reduce}
 use Rattle.model.proofs.ReducedAccepted.{R, kind-known, nested-same, node-suit, row-suit, rowThere-same, rowTyped-same, same-roles, same-rowRoles}
-use Rattle.model.proofs.ReducedAccepted.{open-same, there-same, typed-same}
-use Rattle.table.specs.Rules.{breaks10, breaks11, breaks12, breaks16, breaks5, breaks6, breaks7, breaks8, breaks9, depth, depthBy, kindAt, mostDepth}
-use Rattle.table.specs.Rules.{any, ofNodeOrRow, opensLoop, rolesOf, sharesIterator, sortNumber}
+use Rattle.model.proofs.ReducedAccepted.{open-same, procedures-same, there-same, typed-same}
+use Rattle.kinds.specs.Kinds.{rolesOf, sortNumber, kindAt, ofNodeOrRow}
+use Rattle.procedures.specs.Misplaced.{breaks17}
+use Rattle.table.specs.Rules.{breaks10, breaks11, breaks12, breaks16, breaks5, breaks6, breaks7, breaks8, breaks9, depth, depthBy, mostDepth}
+use Rattle.table.specs.Rules.{any, opensLoop, sharesIterator}
 use Rattle.table.specs.Checks.{breaks}
 use Rattle.table.proofs.Sizes.{or-right}
 use Rattle.table.proofs.Passing.{Passing, Unbroken, accepted, total, unbroken}
@@ -76,12 +79,12 @@ module _ (w : List ℕ) (P : Passing plain w) where
               (nodeKind (nodeAt t n .kind)))
 
   -- the reduction keeps which rows open loops, and their iterators
-  shares-same : (r : ℕ) → sharesIterator u 0 r ≡ sharesIterator t 0 r
+  shares-same : (r : ℕ) → sharesIterator u (home u r) r ≡ sharesIterator t (home t r) r
   unfolding sharesIterator
   shares-same r =
       let iterators : _≡_ {A = ℕ → ℕ} (λ o. rowAt u o .a) (λ o. rowAt t o .a) = fun-ext (R t A .a) in
-      rw (nest-same t u (R t A) r, open-same t A r)
-      (ap (λ (f : ℕ → ℕ). opensLoop (nestAt t r) && any (λ o. leb 0 o && eqb (f o) (f r)) (openAt t r)) iterators)
+      rw (same-home t u (R t A) r, nest-same t u (R t A) r, open-same t A r)
+      (ap (λ (f : ℕ → ℕ). opensLoop (nestAt t r) && any (λ o. leb (home t r) o && eqb (f o) (f r)) (openAt t r)) iterators)
 
   module _ (i : ℕ) (l : i < lineCount t) where
     same5 : breaks 5 reduced u i ≡ false
@@ -133,7 +136,16 @@ module _ (w : List ℕ) (P : Passing plain w) where
 
     same16 : breaks 16 reduced u i ≡ false
     unfolding breaks breaks16
-    same16 = same-of (λ n. false) (λ n. false) (sharesIterator u 0) (sharesIterator t 0) (λ n. refl) shares-same i ∙ unbroken plain w P 16 (P .none16) i l
+    same16 =
+        same-of (λ n. false) (λ n. false) (λ r. sharesIterator u (home u r) r) (λ r. sharesIterator t (home t r) r) (λ n. refl) shares-same i
+        ∙ unbroken plain w P 16 (P .none16) i l
+
+    same17 : breaks 17 reduced u i ≡ false
+    unfolding breaks breaks17
+    same17 =
+        same-of (λ n. false) (λ n. false) (λ r. not (keepsProcedures u r)) (λ r. not (keepsProcedures t r)) (λ n. refl)
+            (λ r. ap not (procedures-same t A r)) i
+        ∙ unbroken plain w P 17 (P .none17) i l
 
     same12 : breaks 12 reduced u i ≡ false
     unfolding breaks breaks12
@@ -158,4 +170,5 @@ module _ (w : List ℕ) (P : Passing plain w) where
     none11 = unbroken-reduced 11 same11;
     none12 = unbroken-reduced 12 same12;
     none16 = unbroken-reduced 16 same16;
+    none17 = unbroken-reduced 17 same17;
   }

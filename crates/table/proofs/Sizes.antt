@@ -19,7 +19,8 @@ use Rattle.lists.proofs.CountLaws.{bit, counted, sum-add, sum-ones, uncounted}
 use Rattle.model.specs.Table.{isDeclaration, isNode, isRow, lineAt, lineCount, tableOf}
 use Rattle.model.specs.State.{MachineKind}
 use Rattle.model.specs.Accepted.{known}
-use Rattle.table.specs.Rules.{breaks5, breaks6, mostDeclarations, mostNodes, mostRows, sortNumber}
+use Rattle.kinds.specs.Kinds.{sortNumber}
+use Rattle.table.specs.Rules.{breaks5, breaks6, mostDeclarations, mostNodes, mostRows}
 use Rattle.table.specs.Checks.{breaks}
 
 -- ---- Bools

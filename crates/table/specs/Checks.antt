@@ -1,6 +1,6 @@
 -- The checks of a table as one answer: refused by the first number, in order, that a line breaks, at the first line that breaks it.
 use Prim.Native.Nat.{ℕ, _/_, _%_}
-use mathlib.Core.Bool.{Bool, true, false}
+use mathlib.Core.Bool.{Bool, false}
 use mathlib.Core.List.{List, [], _∷_}
 use lib.ListN.{length}
 use lib.Dec.{eqb}
@@ -10,7 +10,7 @@ use Rattle.lists.specs.declared.Found.{Found}
 use Rattle.lists.specs.declared.Found.the-variants.{At, Nothing}
 use Rattle.model.specs.Table.{Table, tableOf}
 use Rattle.model.specs.State.{MachineKind}
-use Rattle.model.specs.State.MachineKind.{plain, reduced}
+use Rattle.procedures.specs.Misplaced.{breaks17}
 use Rattle.table.specs.declared.Verdict.{Verdict}
 use Rattle.table.specs.declared.Verdict.the-variants.{Passes, Refused}
 use Rattle.table.specs.Rules.{breaks5, breaks6, breaks7, breaks8, breaks9, breaks10, breaks11, breaks12, breaks16}
@@ -27,11 +27,12 @@ breaks k m t i =
     else (if eqb k 11 then breaks11 t i
     else (if eqb k 12 then breaks12 m t i
     else (if eqb k 16 then breaks16 t i
-    else false))))))))
+    else (if eqb k 17 then breaks17 t i
+    else false)))))))))
 
--- the order of the checks, not by size: 16 stands after 12 (rule 6.2)
+-- the order of the checks: 16 and 17 stand after 12 (rule 6.2)
 abbrev pub order : List ℕ
-order = 5 ∷ 6 ∷ 7 ∷ 8 ∷ 9 ∷ 10 ∷ 11 ∷ 12 ∷ 16 ∷ []
+order = 5 ∷ 6 ∷ 7 ∷ 8 ∷ 9 ∷ 10 ∷ 11 ∷ 12 ∷ 16 ∷ 17 ∷ []
 
 -- the first check that a line breaks, at the first such line (rules 6.2, 6.3)
 abbrev pub refusedAtLine : Found → ℕ → Verdict → Verdict
@@ -52,11 +53,6 @@ checkedBy numbers m w =
 -- the table's checks (rule 6.2)
 unfoldable pub tableCheck : MachineKind → List ℕ → Verdict
 tableCheck m w = checkedBy order m w
-
--- whose table it is, as the code is told
-abbrev pub machineOf : Bool → MachineKind
-machineOf false = plain
-machineOf true = reduced
 
 -- one check after another (rule 6.2)
 abbrev pub andThen : Verdict → Verdict → Verdict

@@ -1,10 +1,10 @@
--- What check 16 says of a table, by where its loops close, and of the loops that are open at once: proofs/IteratorProofs.
+-- What check 16 says of a table, by where its loops close and what they stand in, and of the loops that are open at once: proofs/IteratorProofs.
 use mathlib.Core.Path.{_≡_}
 use Prim.Native.Nat.{ℕ, _+_, _<_, _≤_}
 use mathlib.Core.Bool.{false}
 use mathlib.Core.List.{List, [], _∷_, map}
 use lib.Dec.{eqb}
-use Rattle.model.specs.Table.{Table, tableOf, rowAt, nestAt, matchingEnd, openAt}
+use Rattle.model.specs.Table.{Table, tableOf, rowAt, nestAt, matchingEnd, openAt, home}
 use Rattle.model.specs.Table.Nest.{opens}
 use Rattle.model.specs.State.{MachineKind}
 use Rattle.table.specs.declared.Verdict.the-variants.{Passes, Refused}
@@ -17,10 +17,11 @@ pub record Around (t : Table) (o r : ℕ) : Type 0 where
   pub after : o < r
   pub within : r ≤ matchingEnd t o
 
--- row r opens a loop inside the loop of row o, with its iterator (rule 1.18)
+-- row r opens a loop inside the loop of row o, with its iterator, and both stand in main or in one procedure (rules 1.18, 1.20)
 pub record Shares (t : Table) (o r : ℕ) : Type 0 where
   pub around : Around t o r
   pub opening : nestAt t r ≡ opens
+  pub together : home t o ≡ home t r
   pub iterator : rowAt t r .a ≡ rowAt t o .a
 
 -- no table that passes has such a row (rule 1.18)
@@ -49,11 +50,15 @@ SharingRefused =
     (m : MachineKind) (w : List ℕ) → checkedBy before16 m w ≡ Passes → (o r : ℕ) → r < tableOf w .rows → Shares (tableOf w) o r
     → (line : ℕ) × (tableCheck m w ≡ Refused 16 line)
 
--- and where it has none it passes: a later loop may have the iterator again (rule 1.18)
+-- with 16 after them
+abbrev pub upTo16 : List ℕ
+upTo16 = 5 ∷ 6 ∷ 7 ∷ 8 ∷ 9 ∷ 10 ∷ 11 ∷ 12 ∷ 16 ∷ []
+
+-- and where it has none it passes 16: a later loop may have the iterator again, and so may a loop of another procedure (rule 1.18)
 abbrev pub ApartPasses : Type 0
 ApartPasses =
     (m : MachineKind) (w : List ℕ) → checkedBy before16 m w ≡ Passes → ((o r : ℕ) → r < tableOf w .rows → Shares (tableOf w) o r → ⊥)
-    → tableCheck m w ≡ Passes
+    → checkedBy upTo16 m w ≡ Passes
 
 -- no two numbers of the list are equal
 abbrev pub AllDiffer : List ℕ → Type 0
@@ -64,7 +69,8 @@ AllDiffer (x ∷ xs) = (any (eqb x) xs ≡ false) × AllDiffer xs
 abbrev pub iteratorsOf : Table → List ℕ → List ℕ
 iteratorsOf t rows = map (λ (o : ℕ). rowAt t o .a) rows
 
--- in a table that passes, the loops open at any row, and past the last, have different iterators (rule 1.18)
+-- in a table that passes, the loops open at any row, and past the last, have different iterators: 17 leaves none open where a procedure opens
+-- (rules 1.18, 1.20)
 abbrev pub OpenDiffer : Type 0
 OpenDiffer = (m : MachineKind) (w : List ℕ) → tableCheck m w ≡ Passes → (r : ℕ) → r ≤ tableOf w .rows
     → AllDiffer (iteratorsOf (tableOf w) (openAt (tableOf w) r))

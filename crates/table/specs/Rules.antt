@@ -1,34 +1,16 @@
--- The checks 5 to 12 and 16 of a table's line (section 6 of the rules): line i breaks the check.
+-- The checks 5 to 12 and 16 of a table's line (section 6 of the rules): line i breaks the check. 17 is said with the procedures.
 -- What demand 3 needs of them is said in the model (specs/Accepted), and is used from there.
 use Prim.Native.Nat.{ℕ, _+_, _-_, max}
 use mathlib.Core.Bool.{Bool, true, false, not, _&&_, _||_}
 use mathlib.Core.List.{List, [], _∷_}
 use lib.Dec.{ltb, leb, eqb}
-use Rattle.lists.specs.If.{if_then_else_}
 use Rattle.lists.specs.Falling.{valueAt}
-use Rattle.model.specs.Table.{Table, Line, lineAt, isDeclaration, isNode, isRow, nodeAt, rowAt, Role, Roles, declarationRoles, nodeRoles, rowRoles}
-use Rattle.model.specs.Table.{nodeKind, rowKind, Nest, nestAt, openAt}
+use Rattle.model.specs.Table.{Table, Line, lineAt, isDeclaration, isNode, isRow, nodeAt, rowAt, Role, Roles, nodeRoles, nodeKind, Nest, nestAt, openAt, home}
 use Rattle.model.specs.Table.Nest.{opens, closes, neither}
 use Rattle.model.specs.Table.Role.{unused, flag, number, aVariable, aNode}
 use Rattle.model.specs.State.{MachineKind}
 use Rattle.model.specs.Accepted.{known, nodeThere, rowThere, nodeTyped, rowTyped, misnested, nodeSuitsMark, rowSuitsMark}
-
-abbrev pub kindAt : Table → ℕ → ℕ
-kindAt t i = lineAt (t .words) i .kind
-
--- the sort of a kind: declaration, node, row (rule 1.3)
-abbrev pub sortNumber : ℕ → ℕ
-sortNumber k = if isDeclaration k then 0 else (if isNode k then 1 else 2)
-
--- a check of nodes and rows, by their numbers in their sort
-abbrev pub ofNodeOrRow : (ℕ → Bool) → (ℕ → Bool) → Table → ℕ → Bool
-ofNodeOrRow node row t i =
-    if isDeclaration (kindAt t i) then false
-    else (if isNode (kindAt t i) then node (i - t .decls) else row (i - (t .decls + t .nodes)))
-
--- a check of rows alone
-abbrev pub ofRow : (ℕ → Bool) → Table → ℕ → Bool
-ofRow row t i = ofNodeOrRow (λ n. false) row t i
+use Rattle.kinds.specs.Kinds.{sortNumber, rolesOf, kindAt, ofNodeOrRow, ofRow}
 
 -- 5 (rule 6.10). The first line whose sort is below that of an earlier line is one whose sort is
 -- below that of the line before it; line 0 has none before it
@@ -58,9 +40,6 @@ valueSuits flag x = leb x 1
 valueSuits number x = true
 valueSuits aVariable x = true
 valueSuits aNode x = true
-
-unfoldable pub rolesOf : ℕ → Roles
-rolesOf k = if isDeclaration k then declarationRoles k else (if isNode k then nodeRoles (nodeKind k) else rowRoles (rowKind k))
 
 abbrev pub valuesSuit : Roles → Line → Bool
 valuesSuit rs l = valueSuits (rs .a) (l .a) && (valueSuits (rs .b) (l .b) && valueSuits (rs .c) (l .c))
@@ -124,6 +103,6 @@ opensLoop neither = false
 unfoldable pub sharesIterator : Table → ℕ → ℕ → Bool
 sharesIterator t b r = opensLoop (nestAt t r) && any (openedWith t b (rowAt t r .a)) (openAt t r)
 
--- 16, of the loops opened since row 0, that is of all (rules 1.18, 6.23)
+-- 16, of the loops opened since the first row of what the row belongs to: within main, or within one procedure (rules 1.18, 1.20, 6.23)
 unfoldable pub breaks16 : Table → ℕ → Bool
-breaks16 t i = ofRow (sharesIterator t 0) t i
+breaks16 t i = ofRow (λ r. sharesIterator t (home t r) r) t i

@@ -1,5 +1,4 @@
 // The checks in their order, each over all lines: the first line that breaks it refuses.
-use crate::Counts;
 use crate::Verdict;
 use crate::depths::first_deep;
 use crate::iterators::first_shared;
@@ -11,13 +10,17 @@ use crate::loops::first_unnested;
 use crate::marks::breaks_12;
 use crate::types::breaks_9;
 use crate::types::fill_types;
+use kinds::Counts;
 use lists::Found;
+use procedures::first_misplaced;
 ghost use mathlib.Core.Path.{_≡_};
 ghost use mathlib.Core.List.{[], _∷_};
 ghost use Prim.Native.Nat.{_+_, _*_, _/_, _%_, _<_, _≤_};
 ghost use lib.ListN.{length};
-ghost use Rattle.table.specs.Checks.{machineOf, breaks, firstRefusal};
-ghost use Rattle.table.specs.Code.{countsOf, tableBy, firstOf, InSorts, There, Types};
+ghost use Rattle.kinds.specs.Kinds.{machineOf};
+ghost use Rattle.kinds.specs.Code.{tableBy, InSorts, There};
+ghost use Rattle.table.specs.Checks.{breaks, firstRefusal};
+ghost use Rattle.table.specs.Code.{countsOf, firstOf, Types};
 
 // Whether a line breaks one of 5 to 8.
 fn line_breaks(check: u32, words: &[u32], counts: Counts, reduced: bool, line: usize) -> bool
@@ -116,7 +119,7 @@ fn first_sense(
     Found::Nothing
 }
 
-// Checks 9 to 12 and 16, with the types at hand.
+// Checks 9 to 12, 16 and 17, with the types at hand.
 fn check_with(
     words: &[u32],
     counts: Counts,
@@ -125,7 +128,7 @@ fn check_with(
 ) -> Verdict
     requires { ⌜ InSorts (tableBy (now words) counts) × There (tableBy (now words) counts) ⌝ }
     requires { ⌜ Types (tableBy (now words) counts) (now types) (counts .nodes) ⌝ }
-    ensures { λ r. ⌜ r ≡ firstRefusal (λ k. firstOf k reduced (now (words .entry)) counts) (9 ∷ 10 ∷ 11 ∷ 12 ∷ 16 ∷ []) ⌝ }
+    ensures { λ r. ⌜ r ≡ firstRefusal (λ k. firstOf k reduced (now (words .entry)) counts) (9 ∷ 10 ∷ 11 ∷ 12 ∷ 16 ∷ 17 ∷ []) ⌝ }
 {
     if let Found::At(i) = first_sense(9, words, counts, reduced, types) {
         return Verdict::Refused(9, i);
@@ -142,13 +145,16 @@ fn check_with(
     if let Found::At(i) = first_shared(words, counts) {
         return Verdict::Refused(16, i);
     }
+    if let Found::At(i) = first_misplaced(words, counts) {
+        return Verdict::Refused(17, i);
+    }
     Verdict::Passes
 }
 
-// Checks 9 to 12 and 16, of a table that passes 4 to 8.
+// Checks 9 to 12, 16 and 17, of a table that passes 4 to 8.
 pub(crate) fn check_senses(words: &[u32], counts: Counts, reduced: bool) -> Verdict
     requires { ⌜ InSorts (tableBy (now words) counts) × There (tableBy (now words) counts) ⌝ }
-    ensures { λ r. ⌜ r ≡ firstRefusal (λ k. firstOf k reduced (now (words .entry)) counts) (9 ∷ 10 ∷ 11 ∷ 12 ∷ 16 ∷ []) ⌝ }
+    ensures { λ r. ⌜ r ≡ firstRefusal (λ k. firstOf k reduced (now (words .entry)) counts) (9 ∷ 10 ∷ 11 ∷ 12 ∷ 16 ∷ 17 ∷ []) ⌝ }
 {
     let mut types = [0u32; 1024];
     fill_types(words, counts, &mut types);

@@ -1,15 +1,16 @@
 // The depth of a node by recursion into its operands, each kept in a lent buffer so that it is worked out once, and check 10.
-use crate::Counts;
-use crate::kinds::role_a;
-use crate::kinds::role_b;
-use crate::kinds::role_c;
+use kinds::Counts;
+use kinds::role_a;
+use kinds::role_b;
+use kinds::role_c;
 use lists::Found;
 ghost use mathlib.Core.Path.{_≡_};
 ghost use Prim.Native.Nat.{_+_, _*_, _/_, _<_, _≤_, max};
 ghost use lib.ListN.{length};
 ghost use Rattle.lists.specs.First.{first};
+ghost use Rattle.kinds.specs.Code.{tableBy, InSorts};
 ghost use Rattle.table.specs.Rules.{depth, breaks10};
-ghost use Rattle.table.specs.Code.{tableBy, depthUnder, InSorts, Kept};
+ghost use Rattle.table.specs.Code.{depthUnder, Kept};
 
 const A_NODE: u32 = 4;
 

@@ -1,7 +1,9 @@
-// Check 16: no loop has the iterator of a loop that is open around it.
-use crate::Counts;
-use crate::kinds::nest_of;
-use crate::loops::open_after;
+// Check 16: no loop has the iterator of a loop that is open around it in its procedure.
+use kinds::Counts;
+use kinds::home_after;
+use kinds::nest_of;
+use kinds::open_after;
+use kinds::opens_procedure;
 use lists::Found;
 use lists::word_or_zero;
 ghost use mathlib.Core.Path.{_≡_};
@@ -9,8 +11,9 @@ ghost use Prim.Native.Nat.{_/_, _≤_};
 ghost use lib.ListN.{length};
 ghost use Rattle.lists.specs.First.{first};
 ghost use Rattle.model.specs.Table.{rowAt};
+ghost use Rattle.kinds.specs.Code.{tableBy, InSorts};
 ghost use Rattle.table.specs.Rules.{any, openedWith, breaks16};
-ghost use Rattle.table.specs.Code.{tableBy, keptRows, InSorts, WellNested};
+ghost use Rattle.table.specs.Code.{keptRows, WellNested};
 
 const OPENS: u32 = 1;
 
@@ -47,7 +50,8 @@ fn opened_with(
     false
 }
 
-// 16: the first row that breaks it, the rows of the open loops kept on the way. All loops count, those opened since row 0.
+// 16: the first row that breaks it, the rows of the open loops kept on the way. Loops count that were opened since the first row of what the
+// row belongs to: main's is row 0, and each 43 begins anew.
 pub(crate) fn first_shared(words: &[u32], counts: Counts) -> Found
     requires { ⌜ InSorts (tableBy (now words) counts) × WellNested (tableBy (now words) counts) ⌝ }
     ensures { λ r. ⌜ r ≡ first (breaks16 (tableBy (now (words .entry)) counts)) 0 (length (now (words .entry)) / 4) ⌝ }
@@ -55,19 +59,22 @@ pub(crate) fn first_shared(words: &[u32], counts: Counts) -> Found
     let rows_from = counts.decls + counts.nodes;
     let mut opened = [0u32; 8];
     let mut count: usize = 0;
+    let mut since: usize = 0;
     let mut row: usize = 0;
     while row < counts.rows {
         let line = rows_from + row;
-        let nest = nest_of(words[4 * line]);
+        let kind = words[4 * line];
+        let nest = nest_of(kind);
         if nest == OPENS {
             let at = row as u32;
             let iterator = iterator_of(words, counts, at);
-            if opened_with(words, counts, &opened, count, 0, iterator) {
+            if opened_with(words, counts, &opened, count, since as u32, iterator) {
                 return Found::At(line);
             }
             opened[count] = at;
         }
         count = open_after(nest, count);
+        since = home_after(opens_procedure(kind), row, since);
         row += 1;
     }
     Found::Nothing

@@ -1,34 +1,27 @@
-// The checks 4 to 12 and 16 of a table, plain or reduced: the first refusal by number and line.
+// The checks 4 to 12, 16 and 17 of a table, plain or reduced: the first refusal by number and line.
 use crate::checks::check_lines;
 use crate::checks::check_senses;
 use crate::sorts::counts_of;
 ghost use mathlib.Core.Path.{_≡_};
-ghost use Rattle.table.specs.Checks.{tableCheck, machineOf};
+ghost use Rattle.kinds.specs.Kinds.{machineOf};
+ghost use Rattle.table.specs.Checks.{tableCheck};
 
 pub mod sorts; // sorts.rt: how many lines each sort has
 pub mod loops; // loops.rt: the matching end row, check 11
-pub mod kinds; // kinds.rt: what each kind of line asks, as numbers
 mod lines; // lines.rt: checks 5 to 8
 mod types; // types.rt: types of nodes, check 9
 mod depths; // depths.rt: depths of nodes, check 10
-pub mod marks; // marks.rt: marks of variables, check 12
+mod marks; // marks.rt: marks of variables, check 12
 mod iterators; // iterators.rt: iterators of open loops, check 16
 mod checks; // checks.rt: the checks in their order
 
-// The answer of a check: it passes, or it is refused with a number from 1 to 16 and the place (rule 6.1).
+// The answer of a check: it passes, or it is refused with a number from 1 to 17 and the place (rule 6.1).
 pub enum Verdict {
     Passes,
     Refused(u32, usize),
 }
 
-// How many declarations, nodes and rows a table has.
-pub struct Counts {
-    pub decls: usize,
-    pub nodes: usize,
-    pub rows: usize,
-}
-
-// The first refusal of the words as a plain or a reduced table: 4 at place 0, or 5 to 12 or 16 at a line.
+// The first refusal of the words as a plain or a reduced table: 4 at place 0, or 5 to 12, 16 or 17 at a line.
 pub fn check_table(words: &[u32], reduced: bool) -> Verdict
     ensures { λ r. ⌜ r ≡ tableCheck (machineOf reduced) (now (words .entry)) ⌝ }
 {

@@ -1,20 +1,21 @@
 // Checks 5 to 8: each is a test of one line, by the counts.
-use crate::Counts;
-use crate::kinds::is_known;
-use crate::kinds::is_there;
-use crate::kinds::role_a;
-use crate::kinds::role_b;
-use crate::kinds::role_c;
-use crate::kinds::sort_of;
-use crate::kinds::suits;
+use kinds::Counts;
+use kinds::is_known;
+use kinds::is_there;
+use kinds::opens_procedure;
+use kinds::role_a;
+use kinds::role_b;
+use kinds::role_c;
+use kinds::sort_of;
+use kinds::suits;
 ghost use mathlib.Core.Path.{_≡_};
 ghost use Prim.Native.Nat.{_+_, _-_, _*_, _/_, _<_, _≤_};
 ghost use lib.ListN.{length, getD};
-ghost use Rattle.model.specs.Table.{lineAt};
-ghost use Rattle.model.specs.Accepted.{allThere};
-ghost use Rattle.table.specs.Rules.{rolesOf, breaks5, breaks6, breaks7, breaks8};
-ghost use Rattle.table.specs.Checks.{machineOf};
-ghost use Rattle.table.specs.Code.{tableBy, InSorts};
+ghost use Rattle.model.specs.Table.{lineAt, rowKind};
+ghost use Rattle.model.specs.Accepted.{allThere, localsThere};
+ghost use Rattle.kinds.specs.Kinds.{machineOf, rolesOf};
+ghost use Rattle.kinds.specs.Code.{tableBy, InSorts};
+ghost use Rattle.table.specs.Rules.{breaks5, breaks6, breaks7, breaks8};
 
 // The line before; line 0 is its own.
 fn before(line: usize) -> usize
@@ -72,6 +73,18 @@ fn line_there(words: &[u32], line: usize, vars: usize, bound: usize) -> bool
     a & (b & c)
 }
 
+// Whether the locals of a 43 are there, counted in whole numbers; of no other line there are any.
+fn locals_there(kind: u32, vars: usize, a: u32, count: u32) -> bool
+    ensures { λ r. ⌜ r ≡ localsThere (rowKind kind) vars a count ⌝ }
+{
+    let from = a as usize;
+    let n = count as usize;
+    if opens_procedure(kind) {
+        return (n == 0) | (from + n <= vars);
+    }
+    true
+}
+
 // 8: a variable or node that is not there; a node's own operands are smaller (rule 6.13).
 pub(crate) fn breaks_8(words: &[u32], counts: Counts, line: usize) -> bool
     requires { ⌜ InSorts (tableBy (now words) counts) ⌝ }
@@ -86,5 +99,7 @@ pub(crate) fn breaks_8(words: &[u32], counts: Counts, line: usize) -> bool
     if line < decls + nodes {
         return !line_there(words, line, decls, line - decls);
     }
-    !line_there(words, line, decls, nodes)
+    let w = 4 * line;
+    let locals = locals_there(words[w], decls, words[w + 1], words[w + 2]);
+    !(line_there(words, line, decls, nodes) & locals)
 }

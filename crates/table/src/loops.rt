@@ -1,38 +1,23 @@
 // Loops: the row that closes one, and check 11.
-use crate::Counts;
-use crate::kinds::nest_of;
+use kinds::Counts;
+use kinds::nest_of;
+use kinds::open_after;
 use lists::Found;
 ghost use mathlib.Core.Path.{_≡_};
-ghost use Prim.Native.Nat.{_+_, _*_, _/_, _^_, _<_, _≤_};
+ghost use Prim.Native.Nat.{_+_, _*_, _/_, _<_, _≤_};
 ghost use lib.ListN.{length};
 ghost use lib.Dec.{leb};
 ghost use Rattle.lists.specs.First.{first};
 ghost use Rattle.model.specs.Table.{matchingEnd};
+ghost use Rattle.kinds.specs.Code.{tableBy, InSorts};
 ghost use Rattle.table.specs.Rules.{breaks11};
-ghost use Rattle.table.specs.Code.{tableBy, openAfter, unnested, InSorts};
+ghost use Rattle.table.specs.Code.{unnested};
 
 const OPENS: u32 = 1;
 
 const CLOSES: u32 = 2;
 
 const MOST: usize = 8;
-
-// The open loops after a row, from those before it. For checks 11 and 16 and the matching end, which count no more loops than there are rows.
-pub(crate) fn open_after(nest: u32, count: usize) -> usize
-    requires { ⌜ count < 2 ^ 62 ⌝ }
-    ensures { λ r. ⌜ (r ≡ openAfter nest count) × (r ≤ count + 1) ⌝ }
-{
-    if nest == OPENS {
-        return count + 1;
-    }
-    if nest == CLOSES {
-        if count == 0 {
-            return 0;
-        }
-        return count - 1;
-    }
-    count
-}
 
 // The row that closes the loop of a row, or the row count. For the crates above, once the checks have passed: it asks for as many lines as
 // the counts say, and for a row among them.

@@ -1,16 +1,10 @@
 // How many lines each sort has, counted in one pass.
-use crate::Counts;
+use kinds::Counts;
+use kinds::one_if;
 ghost use mathlib.Core.Path.{_≡_};
 ghost use Prim.Native.Nat.{_≤_, _/_};
 ghost use lib.ListN.{length};
-ghost use Rattle.lists.specs.If.{if_then_else_};
 ghost use Rattle.table.specs.Code.{countsOf};
-
-fn one_if(b: bool) -> usize
-    ensures { λ r. ⌜ (r ≡ (if b then 1 else 0)) × (r ≤ 1) ⌝ }
-{
-    if b { 1 } else { 0 }
-}
 
 // The counts of a table's whole lines. Public for the machines.
 pub fn counts_of(words: &[u32]) -> Counts

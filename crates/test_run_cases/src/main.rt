@@ -1,7 +1,11 @@
 // Runs cases of tables from standard input, each after its length: a fresh run of a machine and the runs that continue it. It prints a
 // line for each run, with check numbers of the record and of the cells. make_cases.py says how a case is laid out.
+use calls::CALLER;
+use calls::DEPTH;
+use calls::STACK;
 use lists::word_or_zero;
 use machine::Machine;
+use machine::Record;
 use runs::Answered;
 use runs::Ran;
 use table::Verdict;
@@ -10,7 +14,7 @@ use testing::mixed;
 use testing::print_end;
 use testing::print_part;
 use testing::size;
-ghost use Prim.Native.Nat.{_<_};
+ghost use Prim.Native.Nat.{_<_, _≤_};
 
 const ROOM: usize = 262144;
 
@@ -30,7 +34,7 @@ struct Asked {
 
 // What a run leaves to the next one.
 struct Kept {
-    machine: Machine,
+    record: Record,
     used: usize,
 }
 
@@ -95,23 +99,96 @@ fn with_arrays(mut h: u32, m: Machine) -> u32 {
     h
 }
 
+// How many locals what a row belongs to has: as many as the last 43 above it says, or none in main.
+fn local_count(t: &[u32], row: u32) -> u32 {
+    let mut above = row;
+    let mut count: u32 = 0;
+    let mut rest = &t[..];
+    while 4 <= rest.len() {
+        if 32 <= rest[0] {
+            if above == 0 {
+                return count;
+            }
+            above -= 1;
+        }
+        if rest[0] == 43 {
+            count = rest[2];
+        }
+        rest = &rest[4..];
+    }
+    count
+}
+
+// The locals of a caller, whose words stand from a place on, so many.
+fn with_kept_locals(mut h: u32, stack: &[u32; STACK], at: usize, count: u32) -> u32
+    requires { ⌜ at ≤ 210 ⌝ }
+{
+    let locals = count as usize;
+    let mut i: usize = 0;
+    while i < 4 && i < locals {
+        h = mixed(h, stack[at + 2 + i]);
+        i += 1;
+    }
+    h
+}
+
+// The open loops of a caller, as many as its words say.
+fn with_kept_loops(mut h: u32, stack: &[u32; STACK], at: usize) -> u32
+    requires { ⌜ at ≤ 210 ⌝ }
+{
+    let open = size(stack[at + 1]);
+    let mut i: usize = 0;
+    while i < 8 && i < open {
+        h = mixed(
+            mixed(mixed(h, stack[at + 6 + i]), stack[at + 14 + i]),
+            stack[at + 22 + i],
+        );
+        i += 1;
+    }
+    h
+}
+
+// A caller: its row, its locals, how many loops are open, and these.
+fn with_caller(h: u32, stack: &[u32; STACK], at: usize, t: &[u32]) -> u32
+    requires { ⌜ at ≤ 210 ⌝ }
+{
+    let row = stack[at];
+    let locals = with_kept_locals(mixed(h, row), stack, at, local_count(t, row));
+    with_kept_loops(mixed(locals, stack[at + 1]), stack, at)
+}
+
+// The callers, the one in main first.
+fn with_callers(mut h: u32, stack: &[u32; STACK], t: &[u32]) -> u32 {
+    let callers = size(stack[DEPTH]);
+    let mut d: usize = 0;
+    while d < 8 && d < callers {
+        h = with_caller(h, stack, CALLER * d, t);
+        d += 1;
+    }
+    h
+}
+
 // The check number of the parts of a record that are in use.
-fn record_check(m: Machine, t: &[u32]) -> u32 {
+fn record_check(r: Record, t: &[u32]) -> u32 {
+    let m = r.machine;
+    let stack = r.stack;
     let loops = with_loops(mixed(mixed(0, m.row), m.open), m);
     let variables = with_variables(loops, m, t);
-    with_arrays(mixed(variables, m.count), m)
+    let arrays = with_arrays(mixed(variables, m.count), m);
+    with_callers(mixed(arrays, stack[DEPTH]), &stack, t)
 }
 
 // Output
 
 fn print_ran(r: Ran, t: &[u32]) {
     let e = r.end;
-    let m = r.machine;
+    let record = r.record;
+    let m = record.machine;
     print_end(e);
     print_part(b" row ", m.row as u64);
     print_part(b" steps ", r.steps as u64);
     print_part(b" choices ", r.used);
-    print_part(b" record ", record_check(m, t) as u64);
+    print_part(b" record ", record_check(record, t) as u64);
 }
 
 fn print_answer(a: Answered, t: &[u32], cells: &[u32]) {
@@ -172,7 +249,7 @@ fn edited_array(mut m: Machine, field: u32, slot: usize, value: u32) -> Machine 
     m
 }
 
-// The record with one part changed; field 11 is of the cells.
+// The machine with one part changed; fields 11 on are of the cells and of the stack.
 fn edited_part(mut m: Machine, field: u32, slot: usize, value: u32) -> Machine {
     match field {
         0 => m.row = value,
@@ -186,14 +263,34 @@ fn edited_part(mut m: Machine, field: u32, slot: usize, value: u32) -> Machine {
     m
 }
 
+// The stack with one word changed: field 12 is how many callers there are, field 13 is any word.
+fn edited_stack(mut stack: [u32; STACK], field: u32, slot: usize, value: u32) -> [u32; STACK] {
+    if field == 12 {
+        stack[DEPTH] = value;
+    }
+    if field == 13 && slot < STACK {
+        stack[slot] = value;
+    }
+    stack
+}
+
+// The record with one part changed.
+fn edited_record(r: Record, field: u32, slot: usize, value: u32) -> Record {
+    let m = r.machine;
+    let s = r.stack;
+    let machine = edited_part(m, field, slot, value);
+    let stack = edited_stack(s, field, slot, value);
+    Record { machine, stack }
+}
+
 // The record with the changes of a list of edits.
-fn edited(mut m: Machine, edits: &[u32]) -> Machine {
+fn edited(mut r: Record, edits: &[u32]) -> Record {
     let mut rest = &edits[..];
     while 3 <= rest.len() {
-        m = edited_part(m, rest[0], size(rest[1]), rest[2]);
+        r = edited_record(r, rest[0], size(rest[1]), rest[2]);
         rest = &rest[3..];
     }
-    m
+    r
 }
 
 // One edit, where it is of the cells.
@@ -226,16 +323,16 @@ fn fresh_run(q: Asked, t: &[u32], cells: &mut [u32], list: &[u32], limit: u32) -
 
 fn continued_run(
     q: Asked,
-    m: Machine,
+    r: Record,
     t: &[u32],
     cells: &mut [u32],
     list: &[u32],
     limit: u32,
 ) -> Answered {
     if q.reduced {
-        return runs::continue_reduced(m, t, q.c1, q.c2, cells, list, limit);
+        return runs::continue_reduced(r, t, q.c1, q.c2, cells, list, limit);
     }
-    runs::continue_plain(m, t, cells, limit)
+    runs::continue_plain(r, t, cells, limit)
 }
 
 // The first run, as often as asked; the last of them is the one that counts.
@@ -253,7 +350,7 @@ fn first_run(q: Asked, t: &[u32], cells: &mut [u32], list: &[u32], limit: u32) -
 fn one_run(
     q: Asked,
     first: bool,
-    m: Machine,
+    r: Record,
     t: &[u32],
     cells: &mut [u32],
     list: &[u32],
@@ -264,22 +361,22 @@ fn one_run(
         return first_run(q, t, cells, list, limit);
     }
     edit_cells(cells, edits);
-    continued_run(q, edited(m, edits), t, cells, list, limit)
+    continued_run(q, edited(r, edits), t, cells, list, limit)
 }
 
 // What to continue with: the record of the run and how many choices it used, or after a refusal the record before it and none.
-fn kept_of(a: Answered, before: Machine) -> Kept {
+fn kept_of(a: Answered, before: Record) -> Kept {
     let v = a.verdict;
     let Verdict::Passes = v else {
         return Kept {
-            machine: before,
+            record: before,
             used: 0,
         };
     };
     let r = a.ran;
-    let machine = r.machine;
+    let record = r.record;
     Kept {
-        machine,
+        record,
         used: r.used as usize,
     }
 }
@@ -288,21 +385,21 @@ fn kept_of(a: Answered, before: Machine) -> Kept {
 fn printed_run(
     q: Asked,
     first: bool,
-    m: Machine,
+    r: Record,
     t: &[u32],
     cells: &mut [u32],
     list: &[u32],
     limit: u32,
     edits: &[u32],
 ) -> Kept {
-    let a = one_run(q, first, m, t, cells, list, limit, edits);
+    let a = one_run(q, first, r, t, cells, list, limit, edits);
     print_answer(a, t, cells);
-    kept_of(a, m)
+    kept_of(a, r)
 }
 
 // The runs of a case, until its words end; none uses more choices than are left.
 fn all_runs(q: Asked, t: &[u32], cells: &mut [u32], list: &[u32], runs: &[u32]) {
-    let mut m = Machine::blank();
+    let mut r = Record::blank();
     let mut left = &list[..];
     let mut rest = &runs[..];
     let mut first = true;
@@ -311,8 +408,8 @@ fn all_runs(q: Asked, t: &[u32], cells: &mut [u32], list: &[u32], runs: &[u32]) 
         if rest.len() < n {
             return;
         }
-        let k = printed_run(q, first, m, t, cells, left, rest[0], &rest[2..n]);
-        m = k.machine;
+        let k = printed_run(q, first, r, t, cells, left, rest[0], &rest[2..n]);
+        r = k.record;
         let used = k.used;
         if left.len() < used {
             return;

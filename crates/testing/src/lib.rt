@@ -128,6 +128,9 @@ pub fn print_end(e: End) {
         End::ListFull => {
             io::write_all(1, b"full");
         }
+        End::TooDeep => {
+            io::write_all(1, b"deep");
+        }
     }
 }
 

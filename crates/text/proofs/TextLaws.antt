@@ -15,7 +15,7 @@ use Rattle.lists.proofs.FallingLaws.{value-is}
 use Rattle.model.specs.Work.{Reason, reasonNumber}
 use Rattle.model.specs.Work.Reason.{sumTooLarge, belowZero, withoutArray, pastLength, counterTooLarge}
 use Rattle.model.specs.Step.{End}
-use Rattle.model.specs.Step.End.{done, assertFalse, assumeFalse, failed, wantOfCells, outOfSteps, choiceNotAllowed, noChoiceLeft, listFull}
+use Rattle.model.specs.Step.End.{done, assertFalse, assumeFalse, failed, wantOfCells, outOfSteps, choiceNotAllowed, noChoiceLeft, listFull, tooDeep}
 use Rattle.machine.specs.View.{endOf}
 use Rattle.pair.specs.declared.Line.{Line}
 use Rattle.pair.specs.Pairs.{lineOf}
@@ -109,6 +109,7 @@ end-most outOfSteps = rw (length-bytes "steps") (omega arith)
 end-most choiceNotAllowed = rw (length-bytes "badchoice") (omega arith)
 end-most noChoiceLeft = rw (length-bytes "nochoice") (omega arith)
 end-most listFull = rw (length-bytes "full") (omega arith)
+end-most tooDeep = rw (length-bytes "deep") (omega arith)
 
 part-most : (name : String) (n : ℕ) → length (decimal n) ≤ 20 → length (part name n) ≤ len name + 20
 part-most name n h = rw (length-append (bytes name) (decimal n), length-bytes name) (omega arith)

@@ -9,7 +9,7 @@ use Rattle.lists.specs.Tab.{tab}
 use Rattle.lists.specs.Falling.{valueAt}
 use Rattle.model.specs.Work.{reasonNumber}
 use Rattle.model.specs.Step.{End}
-use Rattle.model.specs.Step.End.{done, assertFalse, assumeFalse, failed, wantOfCells, outOfSteps, choiceNotAllowed, noChoiceLeft, listFull}
+use Rattle.model.specs.Step.End.{done, assertFalse, assumeFalse, failed, wantOfCells, outOfSteps, choiceNotAllowed, noChoiceLeft, listFull, tooDeep}
 use Rattle.pair.specs.Pairs.{LineSaid, PairSaid, pairSaid}
 use Rattle.pair.specs.Pairs.LineSaid.{line, noLine}
 use Rattle.pair.specs.Pairs.PairSaid.{refusal, lines}
@@ -32,7 +32,7 @@ decimal = valueAt decimalBy []
 abbrev pub part : String → ℕ → List ℕ
 part name n = bytes name ++ decimal n
 
--- an end by its word (rule 8.4), a failure with its reason (rule 8.17); no run of a machine ends with the last
+-- an end by its word (rule 8.4), a failure with its reason (rule 8.17); no run of a machine ends with `full`
 abbrev pub endText : End → List ℕ
 endText done = bytes "done"
 endText assertFalse = bytes "assert"
@@ -43,6 +43,7 @@ endText outOfSteps = bytes "steps"
 endText choiceNotAllowed = bytes "badchoice"
 endText noChoiceLeft = bytes "nochoice"
 endText listFull = bytes "full"
+endText tooDeep = bytes "deep"
 
 -- a run: its end, the row where it stands and the steps taken (rule 8.3). There is no run without an end (Demand1 of `demands`)
 abbrev pub runText : LineSaid → List ℕ

@@ -82,6 +82,7 @@ fn put_end(out: &mut [u8], at: usize, e: End) -> usize
         End::ChoiceNotAllowed => put_word(out, at, b"badchoice"),
         End::NoChoiceLeft => put_word(out, at, b"nochoice"),
         End::ListFull => put_word(out, at, b"full"),
+        End::TooDeep => put_word(out, at, b"deep"),
     }
 }
 

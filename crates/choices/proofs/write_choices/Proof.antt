@@ -24,20 +24,21 @@ fresh-requires c κs =
 
 write-steps-requires : tie.Need-write-steps-requires
 write-steps-requires c κs =
-    let p = c .before .before .before .before .before .before .before .before in
+    let d = c .before .before .before .before in
+    let p = d .before .before .before .before .before .before in
     let k = p .before .before in
     let g = k .before .before .before .before .before .args in
-    begins (g .t .now) (g .cells .now) (g .c1) (g .c2) (k .check-writer .ensures) (p .enum-told .given .1) (c .before .before .before .frame-of .ensures)
-    (c .before .before .fresh .ensures) (c .before .before .before .before .before .before .zero-all .ensures)
+    begins (g .t .now) (g .cells .now) (g .c1) (g .c2) (k .check-writer .ensures) (p .enum-told .given .1) (d .before .frame-of .ensures)
+    (d .fresh .ensures) (d .before .before .before .before .zero-all .ensures)
 
 returns-2 : tie.Need-returns-2
 returns-2 c =
-    let d = c .before .before .before .before .before in
-    let p = d .before .before .before .before .before .before .before .before in
+    let d = c .before .before .before .before .before .before .before .before .before in
+    let p = d .before .before .before .before .before .before in
     let k = p .before .before in
     let g = k .before .before .before .before .before .args in
-    said-writes (g .t .now) (g .cells .now) (g .c1) (g .c2) (k .check-writer .ensures) (p .enum-told .given .1) (d .before .before .before .frame-of .ensures)
-    (d .before .before .fresh .ensures) (d .before .before .before .before .before .before .zero-all .ensures) (g .list .now) (g .limit) refl refl
+    said-writes (g .t .now) (g .cells .now) (g .c1) (g .c2) (k .check-writer .ensures) (p .enum-told .given .1) (d .before .frame-of .ensures)
+    (d .fresh .ensures) (d .before .before .before .before .zero-all .ensures) (g .list .now) (g .limit) refl refl
     (c .before .before .before .before .write-steps .ensures)
 
 pub write-choices-spec : {M : Type 1} → statement M

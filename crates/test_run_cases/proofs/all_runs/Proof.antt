@@ -8,11 +8,11 @@ use Rattle.test_run_cases.proofs.all_runs.Statement.{statement}
 use Rattle.test_run_cases.proofs.all_runs.Tie as tie
 
 abbrev Inv-loop : tie.InvT-loop
-Inv-loop q t cells₀ list runs m₀ left₀ rest₀ first₀ cells m left rest first =
+Inv-loop q t cells₀ list runs r₀ left₀ rest₀ first₀ cells r left rest first =
     (length cells ≡ length cells₀) × (length left * 4 < 2 ^ 63)
 
 abbrev μ-loop : tie.MeasureT-loop
-μ-loop q t cells₀ list runs m₀ left₀ rest₀ first₀ cells m left rest first = length rest
+μ-loop q t cells₀ list runs r₀ left₀ rest₀ first₀ cells r left rest first = length rest
 
 pub all-runs-spec : {M : Type 1} → statement M
 all-runs-spec =

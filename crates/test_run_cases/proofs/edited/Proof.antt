@@ -6,10 +6,10 @@ use Rattle.test_run_cases.proofs.edited.Statement.{statement}
 use Rattle.test_run_cases.proofs.edited.Tie as tie
 
 abbrev Inv-loop : tie.InvT-loop
-Inv-loop m₀ edits rest₀ m rest = Unit {0}
+Inv-loop r₀ edits rest₀ r rest = Unit {0}
 
 abbrev μ-loop : tie.MeasureT-loop
-μ-loop m₀ edits rest₀ m rest = length rest
+μ-loop r₀ edits rest₀ r rest = length rest
 
 pub edited-spec : {M : Type 1} → statement M
 edited-spec =

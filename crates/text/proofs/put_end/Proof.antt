@@ -44,6 +44,10 @@ returns-9 : tie.Need-returns-9
 unfolding bytes tab listed
 returns-9 c = rw (c .before .before .before .before .before .enum-told8 .given .1) (c .before .before .put-word8 .ensures)
 
+returns-10 : tie.Need-returns-10
+unfolding bytes tab listed
+returns-10 c = rw (c .before .before .before .before .before .enum-told9 .given .1) (c .before .before .put-word9 .ensures)
+
 pub put-end-spec : {M : Type 1} → statement M
 put-end-spec =
     tie.close
@@ -78,6 +82,9 @@ put-end-spec =
     (λ c. search needs)
     (λ c κs. search needs)
     (λ c. search needs)
+    (λ c. search needs)
+    (λ c κs. search needs)
+    (λ c. search needs)
     returns
     (λ c. search needs)
     returns-2
@@ -94,4 +101,6 @@ put-end-spec =
     (λ c. search needs)
     returns-8
     (λ c. search needs)
-    returns-9)
+    returns-9
+    (λ c. search needs)
+    returns-10)

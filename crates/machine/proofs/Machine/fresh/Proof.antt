@@ -4,7 +4,7 @@ use Prim.Native.Nat.{_≤_, _-_}
 use native.Mathlib.Omega.{arith}
 use mathlib.Core.Path.{_≡_, refl}
 use Rattle.lists.specs.Tab.{tab}
-use Rattle.machine.specs.CodeFresh.{freshRecord}
+use Rattle.machine.specs.CodeFresh.{freshMachine}
 use Rattle.machine.proofs.FreshLaws.{startedTo, started-none, started-more}
 use borrow.Author.Needs.{needs}
 use Rattle.machine.proofs.Machine.fresh.Statement.{statement}
@@ -25,7 +25,7 @@ loop-again c =
     (search needs, head .inv .1, started-more _ _ _ (omega arith) (head .inv .2) (c .start-number .ensures))
 
 returns : tie.Need-returns Inv-loop μ-loop
-unfolding freshRecord
+unfolding freshMachine
 returns c =
     let head = c .before .before .loop in
     let a = c .before .before .before .before .args in

@@ -12,19 +12,19 @@ use Rattle.machine.proofs.loops.repeated.Statement.{statement}
 use Rattle.machine.proofs.loops.repeated.Tie as tie
 
 returns : tie.Need-returns
-returns c a b k count bs fs ls hs cells =
+returns c a b k count stack bs fs ls hs cells =
     let g = c .before .before .args in
     let m = columns (g .here) (g .ns .now) bs (g .«open») (g .loop-rows .now) (g .starts .now) (g .ends .now) count fs ls hs in
-    repeat-none (g .own .now) (g .list .now) m cells a b k (g .at) (c .if1 .taken)
+    repeat-none (g .own .now) stack (g .list .now) m cells a b k (g .at) (c .if1 .taken)
 
 returns-2 : tie.Need-returns-2
-returns-2 c a b k count bs fs ls hs cells =
+returns-2 c a b k count stack bs fs ls hs cells =
     let s = c .before .before .before .before .before .before .before .before in
     let g = s .args in
     let d = g .«open» - 1 in
     let e : g .«open» ≡ suc d = omega (arith, c .before .before .before .before .before .before .if1 .left) in
     let m = columns (g .here) (g .ns .now) bs (g .«open») (g .loop-rows .now) (g .starts .now) (g .ends .now) count fs ls hs in
-    repeat-ends (g .own .now) (g .list .now) m cells a b k (g .at) d e _ (c .before .before .next-start .ensures) (c .before .match .keys2) (c .lost .ensures)
+    repeat-ends (g .own .now) stack (g .list .now) m cells a b k (g .at) d e _ (c .before .before .next-start .ensures) (c .before .match .keys2) (c .lost .ensures)
 
 loop-at-requires : tie.Need-loop-at-requires
 loop-at-requires c κs =
@@ -59,39 +59,39 @@ loop-at-requires-2 c κs =
     }
 
 returns-3 : tie.Need-returns-3
-returns-3 c a b k count bs fs ls hs cells =
+returns-3 c a b k count stack bs fs ls hs cells =
     let s = c .before .before .before .before .before .before .before .before .before .before .before .before in
     let g = s .args in
     let d = g .«open» - 1 in
     let e : g .«open» ≡ suc d = omega (arith, c .before .before .before .before .before .before .before .before .before .before .if1 .left) in
     let m = columns (g .here) (g .ns .now) bs (g .«open») (g .loop-rows .now) (g .starts .now) (g .ends .now) count fs ls hs in
-    repeat-loop (g .own .now) (g .list .now) m cells a b k (g .at) d e _
+    repeat-loop (g .own .now) stack (g .list .now) m cells a b k (g .at) d e _
     (c .before .before .before .before .before .before .next-start .ensures) (c .before .before .before .before .x .given .1)
     (c .before .before .row-word .ensures) false (kind-38 (c .before .match2 .keys1))
-    (c .loop-at .ensures .loops (g .«open») count bs (g .loop-rows .now) (g .starts .now) (g .ends .now) fs ls hs cells
+    (c .loop-at .ensures .loops (g .«open») count stack bs (g .loop-rows .now) (g .starts .now) (g .ends .now) fs ls hs cells
     (s .pre .loopRows) (s .pre .starts) (s .pre .ends))
 
 returns-4 : tie.Need-returns-4
-returns-4 c a b k count bs fs ls hs cells =
+returns-4 c a b k count stack bs fs ls hs cells =
     let s = c .before .before .before .before .before .before .before .before .before .before .before .before in
     let g = s .args in
     let d = g .«open» - 1 in
     let e : g .«open» ≡ suc d = omega (arith, c .before .before .before .before .before .before .before .before .before .before .if1 .left) in
     let m = columns (g .here) (g .ns .now) bs (g .«open») (g .loop-rows .now) (g .starts .now) (g .ends .now) count fs ls hs in
-    repeat-loop (g .own .now) (g .list .now) m cells a b k (g .at) d e _
+    repeat-loop (g .own .now) stack (g .list .now) m cells a b k (g .at) d e _
     (c .before .before .before .before .before .before .next-start .ensures) (c .before .before .before .before .x .given .1)
     (c .before .before .row-word .ensures) true (kind-42 (c .before .match2 .keys2))
-    (c .loop-at2 .ensures .loops (g .«open») count bs (g .loop-rows .now) (g .starts .now) (g .ends .now) fs ls hs cells
+    (c .loop-at2 .ensures .loops (g .«open») count stack bs (g .loop-rows .now) (g .starts .now) (g .ends .now) fs ls hs cells
     (s .pre .loopRows) (s .pre .starts) (s .pre .ends))
 
 returns-5 : tie.Need-returns-5
-returns-5 c a b k count bs fs ls hs cells =
+returns-5 c a b k count stack bs fs ls hs cells =
     let s = c .before .before .before .before .before .before .before .before .before .before .before in
     let g = s .args in
     let d = g .«open» - 1 in
     let e : g .«open» ≡ suc d = omega (arith, c .before .before .before .before .before .before .before .before .before .if1 .left) in
     let m = columns (g .here) (g .ns .now) bs (g .«open») (g .loop-rows .now) (g .starts .now) (g .ends .now) count fs ls hs in
-    repeat-other (g .own .now) (g .list .now) m cells a b k (g .at) d e _
+    repeat-other (g .own .now) stack (g .list .now) m cells a b k (g .at) d e _
     (c .before .before .before .before .before .next-start .ensures) (c .before .before .before .x .given .1) (c .before .row-word .ensures)
     (c .match2 .rest .0 .1) (c .match2 .rest .1)
 

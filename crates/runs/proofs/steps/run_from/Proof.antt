@@ -7,9 +7,9 @@ use Rattle.runs.proofs.steps.run_from.Tie as tie
 
 returns : tie.Need-returns
 returns c =
-    let g = c .before .before .before .before .before .before .before .before .before .args in
-    counted (g .t .now) (g .f) (g .list .now) (c .before .before .before .before .run-steps .result) _ (c .before .before .before .before .run-steps
-        .ensures) (c .before2 .result) (c .before2 .ensures)
+    let r = c .before .before .before .before in
+    let g = r .before .before .before .before .before .before .before .args in
+    counted (g .t .now) (g .f) (g .list .now) (r .run-steps .result) _ (r .run-steps .ensures) (c .before2 .result) (c .before2 .ensures)
 
 pub run-from-spec : {M : Type 1} → statement M
 run-from-spec = tie.close (tie.spec (λ c κs. search needs) (λ c κs. search needs) (λ c. search needs) returns)

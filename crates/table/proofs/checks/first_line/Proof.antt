@@ -6,8 +6,10 @@ use native.Mathlib.Nat.{sub-zero}
 use mathlib.Core.Path.{_≡_, sym, _∙_}
 use Rattle.lists.specs.First.{first}
 use Rattle.lists.proofs.FirstLaws.{first-hit, first-miss, first-none}
-use Rattle.table.specs.Checks.{machineOf, breaks}
-use Rattle.table.specs.Code.{tableBy, firstOf}
+use Rattle.kinds.specs.Kinds.{machineOf}
+use Rattle.kinds.specs.Code.{tableBy}
+use Rattle.table.specs.Checks.{breaks}
+use Rattle.table.specs.Code.{firstOf}
 use Rattle.table.proofs.checks.first_line.Statement.{statement}
 use Rattle.table.proofs.checks.first_line.Tie as tie
 

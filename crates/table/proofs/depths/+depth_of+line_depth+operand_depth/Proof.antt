@@ -5,7 +5,7 @@ use borrow.Author.Tests.{eq-eqb, ne-eqb, lt-ltb, le-ltb}
 use native.Mathlib.Omega.{arith}
 use mathlib.Core.Path.{refl}
 use lib.ListN.{length, length-set}
-use Rattle.table.specs.Code.{tableBy}
+use Rattle.kinds.specs.Code.{tableBy}
 use Rattle.table.proofs.DepthLaws.{depth-is, depth-most, kept-set}
 use Prim.Native.Nat.{ℕ, _<_, _+_, _*_}
 use borrow.Fn.Kinds.{In}
@@ -20,9 +20,9 @@ use Rattle.table.proofs.depths.operand_depth.Reads as operand-depth
 use Rattle.table.proofs.depths.operand_depth.Kinds as operand-depth-kinds
 use Rattle.table.proofs.depths.+depth_of+line_depth+operand_depth.Lts-operand_depth as operand-depth-lts
 use Rattle.table.proofs.depths.larger.Reads as larger-reads
-use Rattle.table.proofs.kinds.role_a.Reads as role-a-reads
-use Rattle.table.proofs.kinds.role_b.Reads as role-b-reads
-use Rattle.table.proofs.kinds.role_c.Reads as role-c-reads
+use Rattle.kinds.proofs.role_a.Reads as role-a-reads
+use Rattle.kinds.proofs.role_b.Reads as role-b-reads
+use Rattle.kinds.proofs.role_c.Reads as role-c-reads
 use Rattle.table.proofs.depths.+depth_of+line_depth+operand_depth.{statement}
 use Rattle.table.proofs.depths.+depth_of+line_depth+operand_depth.Tie.{close}
 

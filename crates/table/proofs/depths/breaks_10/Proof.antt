@@ -6,9 +6,9 @@ use Prim.Native.Nat.{_+_, _<_, _≤_}
 use mathlib.Core.Path.{sym, ap, _∙_}
 use mathlib.Core.Bool.{false}
 use lib.Dec.{ltb}
+use Rattle.kinds.specs.Code.{tableBy}
+use Rattle.kinds.proofs.LineLaws.{at-declaration, at-node, at-row}
 use Rattle.table.specs.Rules.{breaks10, depth, mostDepth}
-use Rattle.table.specs.Code.{tableBy}
-use Rattle.table.proofs.CodeLaws.{at-declaration, at-node, at-row}
 use Rattle.table.proofs.depths.breaks_10.Statement.{statement}
 use Rattle.table.proofs.depths.breaks_10.Tie as tie
 

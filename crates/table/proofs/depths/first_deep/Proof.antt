@@ -8,8 +8,9 @@ use mathlib.Core.Path.{_≡_, refl, sym, _∙_}
 use lib.ListN.{length}
 use Rattle.lists.specs.First.{first}
 use Rattle.lists.proofs.FirstLaws.{first-hit, first-miss, first-none}
+use Rattle.kinds.specs.Code.{tableBy}
 use Rattle.table.specs.Rules.{breaks10}
-use Rattle.table.specs.Code.{tableBy, Kept}
+use Rattle.table.specs.Code.{Kept}
 use Rattle.table.proofs.DepthLaws.{kept-none}
 use Rattle.table.proofs.depths.first_deep.Statement.{statement}
 use Rattle.table.proofs.depths.first_deep.Tie as tie

@@ -4,8 +4,9 @@ use borrow.Author.Needs.{needs}
 use Prim.Native.Nat.{_<_, _≤_}
 use native.Mathlib.Omega.{arith}
 use mathlib.Core.Path.{_≡_, refl, sym, _∙_}
+use Rattle.kinds.specs.Code.{tableBy}
 use Rattle.table.specs.Rules.{any, openedWith}
-use Rattle.table.specs.Code.{tableBy, keptRows}
+use Rattle.table.specs.Code.{keptRows}
 use Rattle.table.proofs.IteratorLaws.{kept-hit, kept-miss, kept-none}
 use Rattle.table.proofs.iterators.opened_with.Statement.{statement}
 use Rattle.table.proofs.iterators.opened_with.Tie as tie

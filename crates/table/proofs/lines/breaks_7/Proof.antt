@@ -3,7 +3,8 @@
 use borrow.Author.Needs.{needs}
 use Prim.Native.Nat.{_+_, _*_}
 use lib.ListN.{getD}
-use Rattle.table.specs.Rules.{rolesOf, breaks7}
+use Rattle.kinds.specs.Kinds.{rolesOf}
+use Rattle.table.specs.Rules.{breaks7}
 use Rattle.table.proofs.CodeLaws.{suits-role}
 use Rattle.table.proofs.lines.breaks_7.Statement.{statement}
 use Rattle.table.proofs.lines.breaks_7.Tie as tie

@@ -6,9 +6,10 @@ use mathlib.Core.Path.{sym, ap}
 use mathlib.Core.Bool.{not}
 use Prim.Native.Nat.{_-_, _+_, _<_}
 use Rattle.model.specs.Accepted.{nodeThere, rowThere}
+use Rattle.kinds.specs.Code.{tableBy}
+use Rattle.kinds.proofs.LineLaws.{at-declaration, at-node, at-row}
 use Rattle.table.specs.Rules.{breaks8}
-use Rattle.table.specs.Code.{tableBy}
-use Rattle.table.proofs.CodeLaws.{at-declaration, at-node, at-row, node-there, row-there}
+use Rattle.table.proofs.CodeLaws.{node-there, row-there}
 use Rattle.table.proofs.lines.breaks_8.Statement.{statement}
 use Rattle.table.proofs.lines.breaks_8.Tie as tie
 
@@ -33,13 +34,32 @@ returns-2 c =
 returns-3 : tie.Need-returns-3
 unfolding breaks8
 returns-3 c =
-    let start = c .before .before .before .before in
+    let start = c .before .before .before .before .before .before .before .before in
     let t = tableBy (start .args .words .now) (start .args .counts) in
     let i = start .args .line in
     let laid = start .pre .0 in
     let last : i < t .decls + t .nodes + t .rows = omega arith in
-    let low = c .before .if2 .left in
-    rw (at-row t laid i (λ n. not (nodeThere t n)) (λ r. not (rowThere t r)) low last, row-there t laid i low last) (ap not (c .line-there2 .ensures))
+    let low = c .before .before .before .before .before .if2 .left in
+    rw (at-row t laid i (λ n. not (nodeThere t n)) (λ r. not (rowThere t r)) low last, row-there t laid i low last, c .line-there2 .ensures, c .before
+        .locals-there .ensures)
 
 pub breaks-8-spec : {M : Type 1} → statement M
-breaks-8-spec = tie.close (tie.spec returns (λ c. search needs) (λ c κs. search needs) returns-2 (λ c κs. search needs) returns-3)
+breaks-8-spec =
+    tie.close
+    (tie.spec
+    returns
+    (λ c. search needs)
+    (λ c κs. search needs)
+    returns-2
+    (λ c. search needs)
+    (λ c. search needs)
+    (λ c. search needs)
+    (λ c. search needs)
+    (λ c. search needs)
+    (λ c. search needs)
+    (λ c. search needs)
+    (λ c. search needs)
+    (λ c. search needs)
+    (λ c κs. search needs)
+    (λ c κs. search needs)
+    returns-3)

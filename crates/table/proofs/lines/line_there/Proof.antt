@@ -3,7 +3,7 @@
 use borrow.Author.Needs.{needs}
 use Prim.Native.Nat.{_+_, _*_}
 use lib.ListN.{getD}
-use Rattle.table.specs.Rules.{rolesOf}
+use Rattle.kinds.specs.Kinds.{rolesOf}
 use Rattle.table.proofs.CodeLaws.{there-role}
 use Rattle.table.proofs.lines.line_there.Statement.{statement}
 use Rattle.table.proofs.lines.line_there.Tie as tie

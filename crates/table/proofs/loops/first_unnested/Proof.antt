@@ -8,9 +8,11 @@ use lib.ListN.{length}
 use Rattle.lists.specs.First.{first}
 use Rattle.model.specs.Table.{openAt}
 use Rattle.model.specs.Accepted.{misnested}
-use Rattle.table.specs.Rules.{breaks11, ofRow}
-use Rattle.table.specs.Code.{tableBy, firstRow}
-use Rattle.table.proofs.LoopLaws.{open-more, row-by, row-hit, row-miss, row-none, rows-start}
+use Rattle.kinds.specs.Kinds.{ofRow}
+use Rattle.kinds.specs.Code.{tableBy, firstRow}
+use Rattle.kinds.proofs.LineLaws.{open-more, row-hit, row-miss, row-none, rows-start}
+use Rattle.table.specs.Rules.{breaks11}
+use Rattle.table.proofs.LoopLaws.{row-by}
 use Rattle.table.proofs.loops.first_unnested.Statement.{statement}
 use Rattle.table.proofs.loops.first_unnested.Tie as tie
 

@@ -5,7 +5,8 @@ use Prim.Native.Nat.{_+_, _-_, _≤_}
 use native.Mathlib.Omega.{arith}
 use mathlib.Core.Path.{_≡_, sym, ap, _∙_}
 use Rattle.model.specs.Table.{matchingEnd}
-use Rattle.table.specs.Code.{tableBy, scanFrom}
+use Rattle.kinds.specs.Code.{tableBy}
+use Rattle.table.specs.Code.{scanFrom}
 use Rattle.table.proofs.LoopLaws.{scan-start, scan-done, scan-hit, scan-next}
 use Rattle.table.proofs.loops.matching_end.Statement.{statement}
 use Rattle.table.proofs.loops.matching_end.Tie as tie

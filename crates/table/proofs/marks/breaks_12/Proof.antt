@@ -5,8 +5,8 @@ use Prim.Native.Nat.{_+_, _<_}
 use native.Mathlib.Omega.{arith}
 use mathlib.Core.Path.{sym, ap, _∙_}
 use mathlib.Core.Bool.{not}
-use Rattle.table.specs.Checks.{machineOf}
-use Rattle.table.specs.Code.{tableBy}
+use Rattle.kinds.specs.Kinds.{machineOf}
+use Rattle.kinds.specs.Code.{tableBy}
 use Rattle.table.proofs.TypeLaws.{breaks-marks, no-marks}
 use Rattle.table.proofs.marks.breaks_12.Statement.{statement}
 use Rattle.table.proofs.marks.breaks_12.Tie as tie

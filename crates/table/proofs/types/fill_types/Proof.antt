@@ -5,7 +5,8 @@ use Prim.Native.Nat.{_-_, _≤_, _<_}
 use native.Mathlib.Omega.{arith}
 use mathlib.Core.Path.{_≡_}
 use lib.ListN.{length, length-set}
-use Rattle.table.specs.Code.{tableBy, Types}
+use Rattle.kinds.specs.Code.{tableBy}
+use Rattle.table.specs.Code.{Types}
 use Rattle.table.proofs.TypeLaws.{types-more}
 use Rattle.table.proofs.types.fill_types.Statement.{statement}
 use Rattle.table.proofs.types.fill_types.Tie as tie

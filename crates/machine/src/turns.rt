@@ -1,0 +1,32 @@
+// Rows 44 and 45: what a return and a call come to, with their number worked out.
+use crate::End;
+use crate::Move;
+use crate::Record;
+use crate::Worked;
+use crate::values::lost;
+use evaluators::answers::Answer;
+ghost use mathlib.Core.Path.{_≡_};
+ghost use Rattle.machine.specs.CodeRows.{calledOf, returnedOf};
+
+// Row 45, with so many callers.
+pub fn called(depth: u32, k: u32, x: Answer) -> Worked
+    ensures { λ r. ⌜ r ≡ calledOf depth k x ⌝ }
+{
+    let Answer::Uint(v, at) = x else {
+        return lost(x);
+    };
+    if Record::CALLERS <= depth {
+        return Worked::Ends(End::TooDeep, at);
+    }
+    Worked::Moves(Move::Calls(k, v), at)
+}
+
+// Row 44.
+pub fn returned(x: Answer) -> Worked
+    ensures { λ r. ⌜ r ≡ returnedOf x ⌝ }
+{
+    let Answer::Uint(v, at) = x else {
+        return lost(x);
+    };
+    Worked::Moves(Move::Returns(v), at)
+}

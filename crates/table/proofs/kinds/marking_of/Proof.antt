@@ -1,9 +1,0 @@
--- `kinds::marking_of` meets its contract: a digit of the entry.
--- Assumes nothing.
-use borrow.Author.Needs.{needs}
-use Rattle.table.proofs.KindLaws.{marking-at}
-use Rattle.table.proofs.kinds.marking_of.Statement.{statement}
-use Rattle.table.proofs.kinds.marking_of.Tie as tie
-
-pub marking-of-spec : {M : Type 1} → statement M
-marking-of-spec = tie.close (tie.spec (λ c κs. search needs) (λ c. rw (c .entry-of .ensures) (marking-at (c .before .args .kind))))
