@@ -11,7 +11,7 @@ use Rattle.model.specs.State.{position, caller}
 use Rattle.model.specs.Step.{numbersIn, handedOver, argument}
 use Rattle.prepared.specs.Own.{rowsOf, ownTable, ownVars}
 use Rattle.calls.specs.Stack.{loopsOf, depthOf, callersOf}
-use Rattle.calls.specs.Turns.{LocalsFit, Procedures, CanCall, Called}
+use Rattle.calls.specs.CallAndReturn.{LocalsWithin, Procedures, CanCall, Called}
 use Rattle.calls.specs.Code.{localsIn, handed, Sizes, aside}
 use Rattle.calls.proofs.VarLaws.{locals-at, locals-fit, numbers-in, vars-handed, at-argument}
 use Rattle.calls.proofs.StackLaws.{callers-aside}
@@ -32,7 +32,7 @@ module _ (own map : List ℕ) (P : Procedures own map) (stack : List ℕ) (here 
     abbrev given : Stretch
     given = localsAt (ownTable own) (suc (opening (ownTable own) k))
 
-    fit : LocalsFit own held
+    fit : LocalsWithin own held
     fit = P .locals here (C .row)
 
     -- the caller before the others

@@ -16,7 +16,7 @@ use Rattle.prepared.specs.declared.Form.the-variants.{Uint as FUint}
 use Rattle.prepared.specs.Own.{declsOf, rowsOf, ownTable, ownForm, ownVars}
 use Rattle.prepared.proofs.VarLaws.{vars-number}
 use Rattle.calls.specs.Stack.{depthOf, part, callerAt, lastAt, callersOf}
-use Rattle.calls.specs.Turns.{LocalsFit, Procedures, lastOf, CanReturn, Returned}
+use Rattle.calls.specs.CallAndReturn.{LocalsWithin, Procedures, lastOf, CanReturn, Returned}
 use Rattle.calls.specs.Code.{localsIn, handed, TakenBack}
 use Rattle.calls.proofs.VarLaws.{locals-at, locals-fit, length-handed, vars-handed}
 use Rattle.calls.proofs.StackLaws.{local-word, callers-split}
@@ -78,10 +78,10 @@ module _ (own map : List ℕ) (P : Procedures own map) (stack : List ℕ) (here 
     same-given : localsIn own upon ≡ localsAt (ownTable own) back
     same-given = locals-at own map P back back-there target
 
-    left : LocalsFit own (localsIn own from)
+    left : LocalsWithin own (localsIn own from)
     left = locals-fit own map P here (C .row) home
 
-    next : LocalsFit own (localsIn own upon)
+    next : LocalsWithin own (localsIn own upon)
     next = locals-fit own map P back back-there target
 
     vars : (bases : List ℕ)

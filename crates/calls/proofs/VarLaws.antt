@@ -21,7 +21,7 @@ use Rattle.prepared.specs.View.{byForm, varsBy}
 use Rattle.prepared.specs.Own.{declsOf, rowsOf, ownTable, ownForm, ownVars}
 use Rattle.prepared.proofs.VarLaws.{valueIn}
 use Rattle.prepared.proofs.PasteLaws.{paste-before, paste-in, paste-after}
-use Rattle.calls.specs.Turns.{LocalsFit, Procedures}
+use Rattle.calls.specs.CallAndReturn.{LocalsWithin, Procedures}
 use Rattle.calls.specs.Code.{localsIn, pasted, handed}
 
 -- ---- the locals, by the first row of a procedure: the row before it is its 43
@@ -35,11 +35,11 @@ module _ (own map : List ℕ) (P : Procedures own map) (r : ℕ) {q : ℕ} (ther
   pub locals-at : localsIn own q ≡ localsAt (ownTable own) r
   locals-at = ap (localsIn own) (home ∙ P .mapped .homes r there)
 
-  pub locals-fit : LocalsFit own (localsIn own q)
+  pub locals-fit : LocalsWithin own (localsIn own q)
   locals-fit = rw locals-at (P .locals r there)
 
 -- ---- a stretch of declared uints
-module _ (own : List ℕ) (few : declsOf own ≤ 32) (l : Stretch) (fit : LocalsFit own l) (ns : List ℕ) (long : length ns ≡ 32) where
+module _ (own : List ℕ) (few : declsOf own ≤ 32) (l : Stretch) (fit : LocalsWithin own l) (ns : List ℕ) (long : length ns ≡ 32) where
   module _ (bs : List ℕ) where
     at-vars : (i : ℕ) → i < declsOf own → getD (ownVars own ns bs) i (Uint 0) ≡ valueIn own ns bs i
     unfolding varsBy
@@ -80,7 +80,7 @@ module _ (own : List ℕ) (few : declsOf own ≤ 32) (l : Stretch) (fit : Locals
             go false p b q = rw (paste-before ns (l .first) xs (l .count) room has i (leb-false (l .first) i p)) (sym (at-vars bs i h))
 
 -- ---- from one procedure at work to another
-module _ (own : List ℕ) (few : declsOf own ≤ 32) (from upon : ℕ) (left : LocalsFit own (localsIn own from)) (next : LocalsFit own (localsIn own upon))
+module _ (own : List ℕ) (few : declsOf own ≤ 32) (from upon : ℕ) (left : LocalsWithin own (localsIn own from)) (next : LocalsWithin own (localsIn own upon))
     (ns : List ℕ) (long : length ns ≡ 32) (xs : List ℕ) (four : length xs ≡ 4) where
   abbrev cleared : List ℕ
   cleared = pasted ns (localsIn own from) (replicate 4 0)

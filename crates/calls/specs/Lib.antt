@@ -1,5 +1,5 @@
--- Calls and returns: `Stack`, the callers in the words of a lent stack; `Turns`, what a call and a return do to the words; `Code`, what the
+-- Calls and returns: `Stack`, the callers in the words of a lent stack; `CallAndReturn`, what a call and a return do to the words; `Code`, what the
 -- parts of the code do.
 pub mod Stack
-pub mod Turns
+pub mod CallAndReturn
 pub mod Code

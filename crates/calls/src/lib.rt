@@ -6,21 +6,33 @@ mod words; // words.rt: the words of a caller
 use locals::first_local;
 use locals::hand_over;
 use locals::local_count;
+use kinds::Counts;
 use prepared::own::row_word;
+use procedures::PLACES;
+use procedures::map_procedures;
 use words::put_aside;
 use words::take_back;
 ghost use mathlib.Core.Path.{_≡_};
 ghost use Prim.Native.Nat.{_+_, _≤_};
 ghost use lib.ListN.{getD};
-ghost use Rattle.calls.specs.Turns.{Procedures, CanCall, Called, CanReturn, Returned};
+ghost use Rattle.procedures.specs.Map.{Mapped};
+ghost use Rattle.prepared.specs.Own.{rowsOf, ownTable};
+ghost use Rattle.calls.specs.CallAndReturn.{Procedures, CanCall, Called, CanReturn, Returned};
 
-// The words of a stack, and which of them has the number of callers.
-pub const STACK: usize = 241;
+// The most callers, and the most locals and open loops of each.
+pub const CALLERS: usize = 8;
 
-pub const DEPTH: usize = 240;
+pub const LOCALS: usize = 4;
 
-// The words of a caller.
-pub const CALLER: usize = 30;
+pub const LOOPS: usize = 8;
+
+// The words of a caller: its row, how many loops are open, its locals, and three words for each loop.
+pub const CALLER: usize = 2 + LOCALS + 3 * LOOPS;
+
+// Which word of a stack has the number of callers, the one after all of theirs; and how many words a stack has.
+pub const DEPTH: usize = CALLERS * CALLER;
+
+pub const STACK: usize = DEPTH + 1;
 
 // Where a run stands after a return: its row, and how many loops are open.
 pub struct Stood {
@@ -28,12 +40,25 @@ pub struct Stood {
     pub open: u32,
 }
 
+// The procedures of a run's own copy of its table, for the loops of a run and of the choice writer.
+pub fn map_own(own: &[u32; 5256], map: &mut [u32; 273])
+    requires { ⌜ rowsOf (now own) ≤ 256 ⌝ }
+    ensures { λ _. ⌜ Mapped (ownTable (now (own .entry))) (now (map .exit)) ⌝ }
+{
+    let counts = Counts {
+        decls: 34,
+        nodes: 1024,
+        rows: own[134] as usize,
+    };
+    map_procedures(own, counts, map);
+}
+
 // The first row of what a row belongs to.
 fn home_at(map: &[u32; 273], row: u32) -> u32
     requires { ⌜ row ≤ 256 ⌝ }
     ensures { λ r. ⌜ r ≡ getD (now (map .entry)) (16 + row) 0 ⌝ }
 {
-    map[16 + row as usize]
+    map[PLACES + row as usize]
 }
 
 // A call of procedure k with a number, from a row with so many loops open: the caller is put aside, the locals are handed over, and the
@@ -87,8 +112,8 @@ pub fn give_back(
     let back = stack[at];
     let open = stack[at + 1];
     let locals = [stack[at + 2], stack[at + 3], stack[at + 4], stack[at + 5]];
-    hand_over(own, ns, home_at(map, row), home_at(map, back), &locals);
     let c = row_word(own, back, 3) as usize;
+    hand_over(own, ns, home_at(map, row), home_at(map, back), &locals);
     ns[c] = x;
     take_back(stack, at, loop_rows, starts, ends);
     stack[DEPTH] = depth;

@@ -5,7 +5,7 @@ ghost use mathlib.Core.Path.{_≡_};
 ghost use Prim.Native.Nat.{_≤_};
 ghost use lib.ListN.{length};
 ghost use Rattle.prepared.specs.Own.{declsOf};
-ghost use Rattle.calls.specs.Turns.{LocalsFit};
+ghost use Rattle.calls.specs.CallAndReturn.{LocalsWithin};
 ghost use Rattle.calls.specs.Code.{localsIn, handed};
 
 // The first local, and how many there are; main, whose first row is 0, has none (rule 1.21).
@@ -29,7 +29,7 @@ pub(crate) fn local_count(own: &[u32; 5256], home: u32) -> usize
 
 // The locals of the first become 0, then those of the second get numbers.
 pub(crate) fn hand_over(own: &[u32; 5256], ns: &mut [u32; 32], from: u32, upon: u32, xs: &[u32; 4])
-    requires { ⌜ (declsOf (now own) ≤ 32) × LocalsFit (now own) (localsIn (now own) from) × LocalsFit (now own) (localsIn (now own) upon) ⌝ }
+    requires { ⌜ (declsOf (now own) ≤ 32) × LocalsWithin (now own) (localsIn (now own) from) × LocalsWithin (now own) (localsIn (now own) upon) ⌝ }
     ensures { λ _. ⌜ (length (now (ns .entry)) ≡ 32) × (now (ns .exit) ≡ handed (now (own .entry)) (now (ns .entry)) from upon (now (xs .entry))) ⌝ }
 {
     copy(ns, first_local(own, from), &[0; 4], local_count(own, from));

@@ -46,7 +46,7 @@ use Rattle.recording.specs.CodeRecords.{Plain, ReachedBy, pairOf}
 use Rattle.recording.specs.CodeMoves.{ReachedMove}
 use Rattle.runs.specs.CodeSteps.{Ready, kept}
 use Rattle.runs.proofs.ReadyLaws.{state-same, step-same, finished-same}
-use Rattle.runs.proofs.TurnLaws.{table-going}
+use Rattle.runs.proofs.CallingLaws.{table-going}
 use Rattle.choices.specs.CodeSteps.{countOf}
 
 -- it failed, and has a reason

@@ -49,7 +49,7 @@ use Rattle.runs.specs.CodeSteps.{Ready, kept, ran}
 use Rattle.runs.proofs.RunLaws.{going-on}
 use Rattle.runs.proofs.GoingLaws.{arrays-most}
 use Rattle.runs.proofs.ReadyLaws.{state-same, step-same, step-bounds}
-use Rattle.runs.proofs.TurnLaws.{table-going}
+use Rattle.runs.proofs.CallingLaws.{table-going}
 use Rattle.choices.specs.CodeSteps.{Begins, countOf, heldWith, stoppedOf, WriterWrites}
 use Rattle.choices.proofs.ArrayLaws.{arraysNext, step-arrays}
 use Rattle.choices.proofs.BoundLaws.{step-most}

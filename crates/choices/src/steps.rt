@@ -3,6 +3,7 @@ use crate::marks::hold;
 use calls::DEPTH;
 use calls::call;
 use calls::give_back;
+use calls::map_own;
 use evaluators::answers::Failure;
 use machine::End;
 use machine::Machine;
@@ -15,11 +16,15 @@ use prepared::copies::copy;
 use prepared::own::lay_out;
 use recording::moves::recorded_move;
 use runs::Ran;
-use runs::steps::map_own;
 ghost use mathlib.Core.Path.{_≡_};
-ghost use Prim.Native.Nat.{_+_, _<_, _≤_};
+ghost use Prim.Native.Nat.{ℕ, _+_, _<_, _≤_};
+ghost use mathlib.Core.List.{List};
 ghost use lib.ListN.{length};
 ghost use lib.Seq.{paste};
+ghost use Rattle.calls.specs.CallAndReturn.{Procedures, CanCall, CanReturn};
+ghost use Rattle.machine.specs.declared.Move.the-variants.{Calls, Returns};
+ghost use Rattle.machine.specs.View.{ownState};
+ghost use Rattle.machine.specs.CodeMoves.{stateAfter};
 ghost use Rattle.runs.specs.CodeSteps.{kept, ran};
 ghost use Rattle.choices.specs.CodeSteps.{Begins, countOf, failedEnd, stoppedOf, WriterWrites};
 
@@ -80,6 +85,33 @@ fn stopped(w: Worked, steps: u32, at: usize, machine: Machine, stack: [u32; 241]
     }
 }
 
+// The machine after a call of procedure k with a number, and after a return of one.
+fn after_call(m: Machine, own: &[u32; 5256], map: &[u32; 273], stack: &mut [u32; 241], k: u32, x: u32) -> Machine
+    requires { ⌜ Procedures (now own) (now map) × CanCall (now own) (now stack) (m .row) k ⌝ }
+    ensures { λ r. ⌜ ((cells : List ℕ)
+        → ownState (now (own .entry)) (now (stack .exit)) r cells ≡ stateAfter (now (own .entry)) (now (stack .entry)) m cells (Calls k x)) ⌝ }
+{
+    let mut numbers = m.numbers;
+    let rows = m.loop_rows;
+    let starts = m.starts;
+    let ends = m.ends;
+    let next = call(own, map, stack, &mut numbers, m.row, m.open, &rows, &starts, &ends, k, x);
+    m.begin(numbers, next)
+}
+
+fn after_return(m: Machine, own: &[u32; 5256], map: &[u32; 273], stack: &mut [u32; 241], x: u32) -> Machine
+    requires { ⌜ Procedures (now own) (now map) × CanReturn (now own) (now stack) (m .row) ⌝ }
+    ensures { λ r. ⌜ ((cells : List ℕ)
+        → ownState (now (own .entry)) (now (stack .exit)) r cells ≡ stateAfter (now (own .entry)) (now (stack .entry)) m cells (Returns x)) ⌝ }
+{
+    let mut numbers = m.numbers;
+    let mut rows = m.loop_rows;
+    let mut starts = m.starts;
+    let mut ends = m.ends;
+    let back = give_back(own, map, stack, &mut numbers, &mut rows, &mut starts, &mut ends, m.row, x);
+    m.resume(numbers, rows, starts, ends, back)
+}
+
 // The steps of the writer from a fresh record on: what a row comes to is worked out with its numbers, which are written if they all fit; then
 // the change is made by the methods of a step, each in an arm of its own, since `step` is quick with one caller only.
 pub fn write_steps(
@@ -109,21 +141,7 @@ pub fn write_steps(
             return wrote_to(End::OutOfSteps, steps, at, m, stack);
         }
         let w = recorded_move(
-            &own,
-            cells,
-            &mut numbers,
-            m.row,
-            &m.numbers,
-            &m.bases,
-            m.open,
-            &m.loop_rows,
-            &m.starts,
-            &m.ends,
-            m.count,
-            &m.firsts,
-            &m.lengths,
-            &m.shapes,
-            &held,
+            &own, cells, &mut numbers, m.row, &m.numbers, &m.bases, m.open, &m.loop_rows, &m.starts, &m.ends, m.count, &m.firsts, &m.lengths, &m.shapes, &held,
             stack[DEPTH],
         );
         let n = count_of(w);
@@ -149,22 +167,8 @@ pub fn write_steps(
             }
             Move::Enters(a, number, row, depth, from, upto) => m = m.enter(a, number, row, depth, from, upto),
             Move::Leaves(a, number, depth, next) => m = m.leave(a, number, depth, next),
-            Move::Calls(k, x) => {
-                let mut numbers2 = m.numbers;
-                let rows = m.loop_rows;
-                let starts = m.starts;
-                let ends = m.ends;
-                let next = call(&own, &map, &mut stack, &mut numbers2, m.row, m.open, &rows, &starts, &ends, k, x);
-                m = m.begin(numbers2, next);
-            }
-            Move::Returns(x) => {
-                let mut numbers2 = m.numbers;
-                let mut rows = m.loop_rows;
-                let mut starts = m.starts;
-                let mut ends = m.ends;
-                let back = give_back(&own, &map, &mut stack, &mut numbers2, &mut rows, &mut starts, &mut ends, m.row, x);
-                m = m.resume(numbers2, rows, starts, ends, back);
-            }
+            Move::Calls(k, x) => m = after_call(m, &own, &map, &mut stack, k, x),
+            Move::Returns(x) => m = after_return(m, &own, &map, &mut stack, x),
         }
     }
     wrote_to(End::Done, steps, at, m, stack)

@@ -28,8 +28,8 @@ pub record ReducedLine (P : List ℕ) (i : ℕ) : Type 0 where
   pub b : lineAt (reduce P) i .b ≡ lineAt P i .b
   pub c : lineAt (reduce P) i .c ≡ lineAt P i .c
 
--- a run, after n steps at the state s: done comes before out of steps; else one row is one step, and `after` says what it counts (rules 2.16,
--- 2.28 to 2.30)
+-- a run, after n steps at the state s: done comes before out of steps; else a step is one row, or a return at the end of a procedure, and `after`
+-- says what it counts (rules 2.16, 2.28 to 2.30, 2.43)
 pub record RunByRule (ps : List ℕ) (t : Table) (n : ℕ) (s : State) (choices : List ℕ) : Type 0 where
   pub isDone : finished t s ≡ true → (limit : ℕ) → run ps t limit n s choices ≡ ended done n s choices
   pub isOut : finished t s ≡ false → run ps t 0 n s choices ≡ ended outOfSteps n s choices

@@ -1,6 +1,6 @@
--- One iterator, one loop at a time: 16 refuses a loop inside a loop that has its iterator (rules 1.18, 6.2, 6.21 to 6.23). Which tables it
--- refuses and at which line, what that says of runs, who refuses them, and that their files are read; said of the definitions of which those of the
--- public promises are made. That the reduction of a table that passes still passes is in Demand2, `reducedPasses`. Proved in proofs/IteratorsProof.
+-- One iterator, one loop at a time: 16 refuses a loop inside a loop that has its iterator, both in main or both in one procedure (rules 1.18, 6.2,
+-- 6.21 to 6.23). Which tables it refuses and at which line, what that says of runs, who refuses them, and that their files are read; said of the
+-- definitions of which those of the public promises are made. That the reduction of a table that passes still passes is in Demand2, `reducedPasses`. Proved in proofs/IteratorsProof.
 use mathlib.Core.Path.{_≡_}
 use Prim.Native.Nat.{ℕ, _%_, _^_, _≤_}
 use mathlib.Core.List.{List, map}
@@ -25,11 +25,11 @@ use Rattle.pair.specs.Pairs.{pairSaid}
 use Rattle.pair.specs.Pairs.PairSaid.{refusal as notRunning}
 use Rattle.demands.specs.Neighbours.{Starts}
 
--- the rows of the loops that a state has open (rule 2.3)
+-- the rows of the loops open in what is at work (rule 2.3)
 abbrev pub openRows : State → List ℕ
 openRows s = map (λ (l : Loop). l .row) (s .here .loops)
 
--- No state of a run has two loops open with one iterator, from a fresh start or a record that 15 does not refuse (rule 1.18)
+-- No state of a run has, in what is at work, two loops open with one iterator, from a fresh start or a record that 15 does not refuse (rule 1.18)
 abbrev pub OneLoopAtATime : Type 0
 OneLoopAtATime =
     (m : MachineKind) (ps t : List ℕ) → tableCheck m t ≡ Passes → (s : State) → Starts m ps (tableOf t) s → (choices : List ℕ)
@@ -56,7 +56,7 @@ pub record Iterators : Type 0 where
   -- where the checks before it pass, 16 refuses each table that has such a loop, and no other
   pub sharing : SharingRefused
   pub apart : ApartPasses
-  -- no table that passes has one, and no state of its runs has two loops open with one iterator
+  -- no table that passes has one, and no state of its runs has, in what is at work, two loops open with one iterator
   pub passing : PassingSharesNone
   pub oneAtATime : OneLoopAtATime
   -- such tables, as any that is refused, are not run, and not written or reduced

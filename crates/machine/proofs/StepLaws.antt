@@ -26,12 +26,12 @@ use Rattle.machine.specs.declared.Move.the-variants.{Goes, Returns}
 use Rattle.machine.specs.declared.Worked.{Worked}
 use Rattle.machine.specs.declared.Worked.the-variants.{Moves, Not}
 use Rattle.machine.specs.View.{ownState}
-use Rattle.machine.specs.CodeMoves.{RowWorks, StepWorks, Within, Turns, loopRow, LoopFits, RepeatFits}
+use Rattle.machine.specs.CodeMoves.{RowWorks, StepWorks, Within, CallsFit, loopRow, LoopFits, RepeatFits}
 use Rattle.machine.specs.CodeRows.{calledOf, returnedOf}
 use Rattle.machine.proofs.PutLaws.{works-same, works-stuck, lends}
 use Rattle.machine.proofs.WriteLaws.{works-goes}
 use Rattle.machine.proofs.LoopLaws.{kind-read}
-use Rattle.machine.proofs.TurnLaws.{back-works, returns-works, calls-works}
+use Rattle.machine.proofs.CallingLaws.{back-works, returns-works, calls-works}
 
 -- ---- kinds that are no row's
 above : (n : ℕ) {k : ℕ} → n ≤ k → k ≢ n → suc n ≤ k
@@ -99,19 +99,19 @@ module _ (own stack : List ℕ) (m : Machine) (cells l : List ℕ) (at : ℕ) (h
       works-same (works-stuck refl) (by-kind noRow (no-row k h32 h33 h34 h35 h36 h37 h38 h39 h40 h41 h42 h43 h44 h45) refl)
 
   -- 43, 44 and 45
-  module _ (map : List ℕ) (turns : Turns own map stack m cells) where
+  module _ (map : List ℕ) (calling : CallsFit own map stack m cells) where
     pub step-ends : k ≡ 43 → StepWorks own stack m cells l at (Moves (Returns 0) at)
     unfolding rowKind
     step-ends e =
         let q = by-end (rowKind 43) (ap rowKind e) refl in
-        works-same (back-works own map stack m cells l turns 0 at (λ z. turns .goes (drop at l) (sym q ∙ z))) q
+        works-same (back-works own map stack m cells l calling 0 at (λ z. calling .goes (drop at l) (sym q ∙ z))) q
 
     pub step-returns : k ≡ 44 → (x : Answer) → Answers uint l x (operand (lends own m cells) uint 1024 a (drop at l))
         → StepWorks own stack m cells l at (returnedOf x)
     unfolding rowKind
     step-returns e x p =
         let q = by-kind (rowKind 44) (ap rowKind e) refl in
-        works-same (returns-works own map stack m cells l turns a b c at x p (λ z. turns .goes (drop at l) (sym q ∙ z))) q
+        works-same (returns-works own map stack m cells l calling a b c at x p (λ z. calling .goes (drop at l) (sym q ∙ z))) q
 
     pub step-calls : k ≡ 45 → Within own m cells → (depth j : ℕ) → depth ≡ depthOf stack → j ≡ a → (x : Answer)
         → Answers uint l x (operand (lends own m cells) uint 1024 b (drop at l)) → StepWorks own stack m cells l at (calledOf depth j x)
@@ -119,7 +119,7 @@ module _ (own stack : List ℕ) (m : Machine) (cells l : List ℕ) (at : ℕ) (h
     step-calls e fits depth j ed ej x p =
         let q = by-kind (rowKind 45) (ap rowKind e) refl in
         let kind = ap rowKind (sym (kind-read own (m .row) ek)) ∙ ap rowKind e in
-        rw ej (works-same (calls-works own map stack m cells l turns kind fits depth a b c at ed ea x p (λ z. turns .goes (drop at l) (sym q ∙ z))) q)
+        rw ej (works-same (calls-works own map stack m cells l calling kind fits depth a b c at ed ea x p (λ z. calling .goes (drop at l) (sym q ∙ z))) q)
 
   -- what rows 38 and 42 ask for
   pub step-opens : (class : Bool) → rowKind k ≡ loopRow class → Within own m cells → LoopFits own (m .numbers) (m .row) (m .row) (m .«open»)
@@ -138,13 +138,13 @@ module _ (own stack : List ℕ) (m : Machine) (cells l : List ℕ) (at : ℕ) (h
       go false = refl
 
 -- past the last row
-pub step-past : (own map stack : List ℕ) (m : Machine) (cells l : List ℕ) (at : ℕ) → Turns own map stack m cells → rowsOf own ≤ m .row
+pub step-past : (own map stack : List ℕ) (m : Machine) (cells l : List ℕ) (at : ℕ) → CallsFit own map stack m cells → rowsOf own ≤ m .row
     → StepWorks own stack m cells l at (Moves (Returns 0) at)
 unfolding step atEnd
-step-past own map stack m cells l at turns h =
+step-past own map stack m cells l at calling h =
     let q : giveBack (ownTable own) (ownState own stack m cells) (callersOf (ownTable own) stack) 0 (drop at l)
         ≡ step (placesOf own) (ownTable own) (ownState own stack m cells) (drop at l) = rw (le-ltb (m .row) (rowsOf own) h) in
-    works-same (back-works own map stack m cells l turns 0 at (λ z. turns .goes (drop at l) (sym q ∙ z))) q
+    works-same (back-works own map stack m cells l calling 0 at (λ z. calling .goes (drop at l) (sym q ∙ z))) q
 
 -- what row 39 asks for
 pub step-closes : (own : List ℕ) (m : Machine) (cells : List ℕ) → m .row < rowsOf own → Within own m cells

@@ -29,7 +29,7 @@ use Rattle.machine.specs.declared.Move.the-variants.{Goes, Puts, Writes,
 use Rattle.machine.specs.declared.Worked.{Worked}
 use Rattle.machine.specs.declared.Worked.the-variants.{Moves, Ends, Not}
 use Rattle.calls.specs.Stack.{depthOf, loopsOf, callersOf}
-use Rattle.calls.specs.Turns.{Procedures, CanCall, CanReturn}
+use Rattle.calls.specs.CallAndReturn.{Procedures, CanCall, CanReturn}
 use Rattle.machine.specs.View.{endOf, ownState}
 
 -- ---- the record by its columns
@@ -171,7 +171,7 @@ pub record Within (own : List ℕ) (m : Machine) (cells : List ℕ) : Type 0 whe
 
 -- what a call or a return of the row where the record stands asks for: by 17, procedures and their locals; by 15, the callers; and a step of the
 -- model that comes to an end or goes on
-pub record Turns (own map stack : List ℕ) (m : Machine) (cells : List ℕ) : Type 0 where
+pub record CallsFit (own map stack : List ℕ) (m : Machine) (cells : List ℕ) : Type 0 where
   pub procedures : Procedures own map
   pub few : depthOf stack ≤ 8
   pub numbers : rowKind (rowAt (ownTable own) (m .row) .kind) ≡ call → opening (ownTable own) (rowAt (ownTable own) (m .row) .a) < rowsOf own

@@ -156,7 +156,7 @@ entryOf own ns here row c from upto depth again at =
     else leaveOf (wayOut own here row again) (rowAt (ownTable own) row .a) (iterNumber (placesOf own) c from) depth at)
     else Not Stuck at
 
--- ---- 44 and 45
+-- ---- 44 and 45 (rules 2.40 to 2.42)
 unfoldable pub calledOf : ℕ → ℕ → Answer → Worked
 calledOf depth k x = onUint (λ v at. if leb 8 depth then Ends TooDeep at else Moves (Calls k v) at) x
 

@@ -1,6 +1,6 @@
 // The machines: the record by value, what a row comes to, worked out from the record's columns, and the step that makes the change.
 pub mod arrays; // arrays.rt: rows 37 and 41
-pub mod turns; // turns.rt: rows 44 and 45
+pub mod calling; // calling.rt: rows 44 and 45
 pub mod conditions; // conditions.rt: rows 35 and 36
 mod fresh; // fresh.rt: a fresh record and a blank one
 pub mod loops; // loops.rt: rows 38, 42 and 39
@@ -9,6 +9,8 @@ pub mod steps; // steps.rt: the steps
 pub mod values; // values.rt: row 33
 pub mod writes; // writes.rt: rows 34 and 40
 
+use calls::CALLERS;
+use calls::LOCALS;
 use calls::STACK;
 use evaluators::answers::Failure;
 use evaluators::answers::Reason;
@@ -66,8 +68,10 @@ impl Machine {
 }
 
 impl Record {
-    // The most callers that a record has (rule 2.41).
-    pub const CALLERS: u32 = 8;
+    // The most callers that a record has (rule 2.41), and the most locals that it keeps of each (rule 1.21).
+    pub const CALLERS: u32 = CALLERS as u32;
+
+    pub const LOCALS: usize = LOCALS;
 }
 
 // What a step changes: nothing but the row; variable a gets a number and a base; cell i gets a number; pointer a gets a new array (its first

@@ -5,8 +5,8 @@ use crate::arrays::laid;
 use crate::conditions::tested;
 use crate::loops::loop_at;
 use crate::loops::repeated;
-use crate::turns::called;
-use crate::turns::returned;
+use crate::calling::called;
+use crate::calling::returned;
 use crate::values::assigned;
 use crate::values::lost;
 use crate::writes::written;
@@ -22,7 +22,7 @@ ghost use Prim.Native.Nat.{ℕ, _<_, _≤_};
 ghost use lib.ListN.{length, drop};
 ghost use Rattle.prepared.specs.Own.{declsOf, rowsOf};
 ghost use Rattle.calls.specs.Stack.{depthOf};
-ghost use Rattle.machine.specs.CodeMoves.{columns, Within, Turns, RowWorks, StepWorks, storeRow, loopRow, LoopFits};
+ghost use Rattle.machine.specs.CodeMoves.{columns, Within, CallsFit, RowWorks, StepWorks, storeRow, loopRow, LoopFits};
 
 // Row 34, or 40: its operands, then the write.
 fn stored<'a>(
@@ -113,7 +113,7 @@ fn row_move<'a>(
     requires { ⌜ Within (now own) (columns row (now ns) (now bs) «open» (now «loop_rows») (now starts) (now ends) count (now fs) (now ls) (now hs))
         (now cells) × (row < rowsOf (now own)) ⌝ }
     ensures { λ r. ⌜ ((map stack : List ℕ) → depth ≡ depthOf stack
-        → Turns (now (own .entry)) map stack (columns row (now (ns .entry)) (now (bs .entry)) «open» (now («loop_rows» .entry)) (now (starts .entry))
+        → CallsFit (now (own .entry)) map stack (columns row (now (ns .entry)) (now (bs .entry)) «open» (now («loop_rows» .entry)) (now (starts .entry))
         (now (ends .entry)) count (now (fs .entry)) (now (ls .entry)) (now (hs .entry))) (now (cells .entry))
         → StepWorks (now (own .entry)) stack (columns row (now (ns .entry)) (now (bs .entry)) «open» (now («loop_rows» .entry)) (now (starts .entry))
         (now (ends .entry)) count (now (fs .entry)) (now (ls .entry)) (now (hs .entry))) (now (cells .entry)) (now (list .entry)) at r) ⌝ }
@@ -163,7 +163,7 @@ pub fn move_of<'a>(
     requires { ⌜ Within (now own) (columns row (now ns) (now bs) «open» (now «loop_rows») (now starts) (now ends) count (now fs) (now ls) (now hs))
         (now cells) ⌝ }
     ensures { λ r. ⌜ ((map stack : List ℕ) → depth ≡ depthOf stack
-        → Turns (now (own .entry)) map stack (columns row (now (ns .entry)) (now (bs .entry)) «open» (now («loop_rows» .entry)) (now (starts .entry))
+        → CallsFit (now (own .entry)) map stack (columns row (now (ns .entry)) (now (bs .entry)) «open» (now («loop_rows» .entry)) (now (starts .entry))
         (now (ends .entry)) count (now (fs .entry)) (now (ls .entry)) (now (hs .entry))) (now (cells .entry))
         → StepWorks (now (own .entry)) stack (columns row (now (ns .entry)) (now (bs .entry)) «open» (now («loop_rows» .entry)) (now (starts .entry))
         (now (ends .entry)) count (now (fs .entry)) (now (ls .entry)) (now (hs .entry))) (now (cells .entry)) (now (list .entry)) at r) ⌝ }

@@ -11,7 +11,7 @@ ghost use Prim.Native.Nat.{_+_, _<_, _≤_};
 ghost use lib.ListN.{length, replicate};
 ghost use Rattle.lists.specs.If.{if_then_else_};
 ghost use Rattle.model.specs.Step.{cleared};
-ghost use Rattle.calls.specs.Turns.{Procedures};
+ghost use Rattle.calls.specs.CallAndReturn.{Procedures};
 ghost use Rattle.machine.specs.View.{ownState};
 ghost use Rattle.machine.specs.CodeMoves.{passed, withValue, withLaid, entered, exited, begun, resumed, stateAfter, Can};
 

@@ -152,8 +152,8 @@ module _ (t : Table) where
 pub uses-right : UsesRightHolds
 unfolding usesOwn
 uses-right t = record {
-  allowed = λ r e v h. named r e v h;
-  refused = λ r h. line-allowed t (home t r) (nodeUses t) (rowRoles (rowKind (rowAt t r .kind))) (rowAt t r) (λ x k. h x (names k))
+  onlyOwn = λ r e v h. named r e v h;
+  whereOwn = λ r h. line-allowed t (home t r) (nodeUses t) (rowRoles (rowKind (rowAt t r .kind))) (rowAt t r) (λ x k. h x (names k))
       (λ x k. node-allowed t (home t r) (suc x) x (omega arith) (λ v z. h v (reads x k z)));
   called = is-called t;
 }

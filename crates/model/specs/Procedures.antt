@@ -117,10 +117,10 @@ pub data RowUses (t : Table) (r v : ℕ) : Type 0 where
   reads : (n : ℕ) → Has (rowRoles (rowKind (rowAt t r .kind))) (rowAt t r) aNode n → Reads t v n → RowUses t r v
 
 -- `usesOwn` fails of a row exactly where that uses a local of a procedure in which it does not stand; a call names a procedure exactly where its number
--- is below the count of rows 43 (rules 1.22, 6.24)
+-- is below the count of rows 43 (rules 1.19, 1.20, 1.22, 6.24)
 pub record UsesRight (t : Table) : Type 0 where
-  pub allowed : (r : ℕ) → usesOwn t r ≡ true → (v : ℕ) → RowUses t r v → mayUse t (home t r) v ≡ true
-  pub refused : (r : ℕ) → ((v : ℕ) → RowUses t r v → mayUse t (home t r) v ≡ true) → usesOwn t r ≡ true
+  pub onlyOwn : (r : ℕ) → usesOwn t r ≡ true → (v : ℕ) → RowUses t r v → mayUse t (home t r) v ≡ true
+  pub whereOwn : (r : ℕ) → ((v : ℕ) → RowUses t r v → mayUse t (home t r) v ≡ true) → usesOwn t r ≡ true
   pub called : (k : ℕ) → ltb (opening t k) (t .rows) ≡ ltb k (openedBefore t (t .rows))
 
 abbrev pub UsesRightHolds : Type 0

@@ -17,7 +17,8 @@ pub mod owners; // owners.rt: whose local each variable is, for our crates above
 mod uses; // uses.rt: whose locals a line uses
 mod rows; // rows.rt: check 17, row by row
 
-const PLACES: usize = 16;
+// How many words of a map say where procedures open; those of the rows stand after them.
+pub const PLACES: usize = 16;
 
 // Where the first sixteen procedures open, in words 0 to 15, the row count where there is none; and in word 16 + r the first row of what row r
 // belongs to, the row past the last among them. One pass over the rows.

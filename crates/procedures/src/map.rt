@@ -1,11 +1,10 @@
 // The words of the map of procedures: no procedure yet, and one more.
+use crate::PLACES;
 ghost use mathlib.Core.Path.{_≡_};
 ghost use Prim.Native.Nat.{_<_, _≤_};
 ghost use lib.ListN.{length};
 ghost use Rattle.procedures.specs.Map.{mapSize};
 ghost use Rattle.procedures.specs.Code.{Cleared, noted};
-
-const PLACES: usize = 16;
 
 // No procedure opens anywhere: each place has the row count.
 pub(crate) fn clear_openings(map: &mut [u32], rows: usize)

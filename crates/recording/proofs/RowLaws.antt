@@ -28,7 +28,7 @@ use Rattle.machine.specs.declared.Worked.the-variants.{Moves, Not}
 use Rattle.machine.specs.View.{ownState}
 use Rattle.machine.specs.CodeRows.{onBool, onUint, onPointer, fitsIn, putOf, putBool, putUint, putPointer, testedOf, lacksRoom, usedIn, sizeFor, layOf, laidOf}
 use Rattle.machine.specs.CodeRows.{calledOf, returnedOf}
-use Rattle.machine.specs.CodeMoves.{BoolsFit, Sized, Within, Turns}
+use Rattle.machine.specs.CodeMoves.{BoolsFit, Sized, Within, CallsFit}
 use Rattle.machine.proofs.PutLaws.{lends, puts-bool, puts-uint, puts-pointer, asserts, assumes}
 use Rattle.machine.proofs.LayLaws.{lays-plain}
 use Rattle.machine.proofs.LoopLaws.{kind-read}
@@ -178,10 +178,10 @@ module _ (own stack : List ℕ) (m : Machine) (cells held before : List ℕ) (he
   numbers-of n e o = rw (ends-by own (m .row) here ek ∙ ap (λ (j : ℕ). opensProcedure (rowKind j)) e ∙ o) (rw (← e, kind-read own (m .row) ek, ea, eb, ec))
 
   -- 43 has none
-  pub records-ends : (map : List ℕ) → Turns own map stack m cells → k ≡ 43 → StepRecords own stack m cells held (Moves (Returns 0) 0) before before
+  pub records-ends : (map : List ℕ) → CallsFit own map stack m cells → k ≡ 43 → StepRecords own stack m cells held (Moves (Returns 0) 0) before before
   unfolding stepChoices rowKind ReachedMove
-  records-ends map turns e = record {
-    works = step-ends own stack m cells [] 0 here ek ea eb ec map turns e;
+  records-ends map calling e = record {
+    works = step-ends own stack m cells [] 0 here ek ea eb ec map calling e;
     numbers = rw (ends-by own (m .row) here ek ∙ ap (λ (j : ℕ). opensProcedure (rowKind j)) e) (sym (push-none (pushed before 0)));
   }
 
@@ -207,12 +207,12 @@ module _ (own stack : List ℕ) (m : Machine) (cells held before : List ℕ) (he
         other n l h e = let q = kind-read own (m .row) ek in omega (arith, plain .rows (m .row) (omega (arith, q, e, l)), q)
 
     -- 44 and 45: x is the operand's answer
-    module _ (map : List ℕ) (turns : Turns own map stack m cells) (x : Answer) where
+    module _ (map : List ℕ) (calling : CallsFit own map stack m cells) (x : Answer) where
       pub records-returns : {z : Worked} → k ≡ 44 → Recorded uint (lends own m cells) held 1024 a x after (pushed before 0) → z ≡ returnedOf x
           → StepRecords own stack m cells held z before after
       unfolding rowChoices rowKind
       records-returns e h q = rw q (record {
-        works = step-returns own stack m cells [] 0 here ek ea eb ec map turns e x (h .value);
+        works = step-returns own stack m cells [] 0 here ek ea eb ec map calling e x (h .value);
         numbers = rw (listed own stack m cells held uint a ∙ numbers-of 44 e refl) at (return-reached after _ x (h .numbers));
       })
 
@@ -221,16 +221,16 @@ module _ (own stack : List ℕ) (m : Machine) (cells held before : List ℕ) (he
           → StepRecords own stack m cells held z before after
       unfolding rowChoices rowKind
       records-calls e fits depth j ed ej h q = rw q (record {
-        works = step-calls own stack m cells [] 0 here ek ea eb ec map turns e fits depth j ed ej x (h .value);
+        works = step-calls own stack m cells [] 0 here ek ea eb ec map calling e fits depth j ed ej x (h .value);
         numbers = rw (listed own stack m cells held uint b ∙ numbers-of 45 e refl) at (call-reached after _ depth j x (h .numbers));
       })
 
 -- past the last row a return of 0 has no numbers
-pub records-past : (own map stack : List ℕ) (m : Machine) (cells held before : List ℕ) → Turns own map stack m cells → rowsOf own ≤ m .row
+pub records-past : (own map stack : List ℕ) (m : Machine) (cells held before : List ℕ) → CallsFit own map stack m cells → rowsOf own ≤ m .row
     → StepRecords own stack m cells held (Moves (Returns 0) 0) before before
 unfolding stepChoices atEnd ReachedMove
-records-past own map stack m cells held before turns h = record {
-  works = step-past own map stack m cells [] 0 turns h;
+records-past own map stack m cells held before calling h = record {
+  works = step-past own map stack m cells [] 0 calling h;
   numbers = rw (le-ltb (m .row) (rowsOf own) h) (sym (push-none (pushed before 0)));
 }
 

@@ -18,8 +18,8 @@ use machine::Worked;
 use machine::arrays::laid;
 use machine::conditions::tested;
 use machine::loops::entry;
-use machine::turns::called;
-use machine::turns::returned;
+use machine::calling::called;
+use machine::calling::returned;
 use machine::values::lost;
 use machine::values::put_bool;
 use machine::values::put_pointer;
@@ -36,7 +36,7 @@ ghost use Rattle.model.specs.Table.{rowAt, markedUint};
 ghost use Rattle.model.specs.Table.Row.{assign, store, loop, loopEnd};
 ghost use Rattle.prepared.specs.Own.{declsOf, rowsOf, ownTable};
 ghost use Rattle.calls.specs.Stack.{depthOf};
-ghost use Rattle.machine.specs.CodeMoves.{columns, BoolsFit, Within, Turns, LoopFits, RepeatFits};
+ghost use Rattle.machine.specs.CodeMoves.{columns, BoolsFit, Within, CallsFit, LoopFits, RepeatFits};
 ghost use Rattle.recording.specs.CodePushes.{pushed, pushAll};
 ghost use Rattle.recording.specs.CodeRecords.{Plain, heldOf};
 ghost use Rattle.recording.specs.CodeMoves.{RowRecords, StepRecords};
@@ -226,7 +226,7 @@ fn recorded_row<'a>(
         (now cells) × (row < rowsOf (now own)) ⌝ }
     requires { ⌜ Plain (now own) ⌝ }
     ensures { λ r. ⌜ ((map stack : List ℕ) → depth ≡ depthOf stack
-        → Turns (now (own .entry)) map stack (columns row (now (ns .entry)) (now (bs .entry)) «open» (now («loop_rows» .entry)) (now (starts .entry))
+        → CallsFit (now (own .entry)) map stack (columns row (now (ns .entry)) (now (bs .entry)) «open» (now («loop_rows» .entry)) (now (starts .entry))
         (now (ends .entry)) count (now (fs .entry)) (now (ls .entry)) (now (hs .entry))) (now (cells .entry))
         → StepRecords (now (own .entry)) stack (columns row (now (ns .entry)) (now (bs .entry)) «open» (now («loop_rows» .entry)) (now (starts .entry))
         (now (ends .entry)) count (now (fs .entry)) (now (ls .entry)) (now (hs .entry))) (now (cells .entry)) (now (held .entry)) r (now (out .entry))
@@ -275,7 +275,7 @@ pub fn recorded_move<'a>(
         (now cells) ⌝ }
     requires { ⌜ Plain (now own) ⌝ }
     ensures { λ r. ⌜ ((map stack : List ℕ) → depth ≡ depthOf stack
-        → Turns (now (own .entry)) map stack (columns row (now (ns .entry)) (now (bs .entry)) «open» (now («loop_rows» .entry)) (now (starts .entry))
+        → CallsFit (now (own .entry)) map stack (columns row (now (ns .entry)) (now (bs .entry)) «open» (now («loop_rows» .entry)) (now (starts .entry))
         (now (ends .entry)) count (now (fs .entry)) (now (ls .entry)) (now (hs .entry))) (now (cells .entry))
         → StepRecords (now (own .entry)) stack (columns row (now (ns .entry)) (now (bs .entry)) «open» (now («loop_rows» .entry)) (now (starts .entry))
         (now (ends .entry)) count (now (fs .entry)) (now (ls .entry)) (now (hs .entry))) (now (cells .entry)) (now (held .entry)) r (now (out .entry))

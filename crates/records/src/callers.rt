@@ -4,6 +4,7 @@ use calls::CALLER;
 use calls::DEPTH;
 use machine::Record;
 use prepared::Frame;
+use procedures::PLACES;
 ghost use mathlib.Core.Path.{_≡_};
 ghost use mathlib.Core.Bool.{_&&_};
 ghost use Prim.Native.Nat.{_+_, _≤_};
@@ -19,9 +20,6 @@ ghost use Rattle.records.specs.Record.{callsRight, callersRight};
 ghost use Rattle.records.specs.CodeRecord.{callOf};
 
 const CALL: u32 = 45;
-
-// Where the words of the rows begin in a map of procedures.
-pub(crate) const ROWS_FROM: usize = 16;
 
 // A row is a 45 that calls the procedure with the first row q (rule 7.16).
 fn is_call_of(t: &[u32], f: Frame, map: &[u32; 273], row: u32, q: u32) -> bool
@@ -86,7 +84,7 @@ pub(crate) fn callers_right(
         n -= 1;
         let at = CALLER * n;
         if calls_right(t, f, map, stack, at, q) {
-            q = map[ROWS_FROM + stack[at] as usize];
+            q = map[PLACES + stack[at] as usize];
         } else {
             return false;
         }

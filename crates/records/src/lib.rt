@@ -5,11 +5,11 @@ mod loops; // loops.rt: where the run or a caller stands
 mod variables; // variables.rt: the variables, and the locals of what is not at work
 
 use arrays::arrays_fit;
-use callers::ROWS_FROM;
 use callers::callers_right;
 use loops::stands_right;
 use machine::Record;
 use prepared::Frame;
+use procedures::PLACES;
 use procedures::map_procedures;
 use variables::locals_idle;
 use variables::variables_fit;
@@ -32,7 +32,7 @@ pub fn record_fits(t: &[u32], cells: &[u32], f: Frame, r: Record) -> bool
     }
     let mut map = [0u32; 273];
     map_procedures(t, f.counts, &mut map);
-    let at_work = map[ROWS_FROM + m.row as usize];
+    let at_work = map[PLACES + m.row as usize];
     if !callers_right(t, f, &map, &stack[..], at_work) {
         return false;
     }

@@ -2,7 +2,7 @@
 pub mod RunLaws
 pub mod GoingLaws
 pub mod ReadyLaws
-pub mod TurnLaws
+pub mod CallingLaws
 pub mod LendLaws
 pub mod SaidLaws
 pub mod RunPromises

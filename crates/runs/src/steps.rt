@@ -1,5 +1,7 @@
 // The loop of a run: steps until an end, or until the limit.
 use crate::Ran;
+use calls::DEPTH;
+use calls::map_own;
 use evaluators::answers::Failure;
 use machine::End;
 use machine::Machine;
@@ -8,15 +10,10 @@ use machine::Worked;
 use machine::moves::move_of;
 use prepared::Frame;
 use prepared::own::lay_out;
-use kinds::Counts;
-use calls::DEPTH;
-use procedures::map_procedures;
 ghost use mathlib.Core.Path.{_≡_};
 ghost use Prim.Native.Nat.{_<_, _≤_};
 ghost use lib.ListN.{drop, length};
 ghost use Rattle.model.specs.Step.{run};
-ghost use Rattle.procedures.specs.Map.{Mapped};
-ghost use Rattle.prepared.specs.Own.{rowsOf, ownTable};
 ghost use Rattle.prepared.specs.View.{places, tableFor};
 ghost use Rattle.machine.specs.View.{stateOf};
 ghost use Rattle.runs.specs.CodeSteps.{Ready, kept, ran, failedOf, stoppedOf, RunReports, Reports};
@@ -59,19 +56,6 @@ fn stopped(w: Worked, steps: u32, at: usize, machine: Machine, stack: [u32; 241]
     }
 }
 
-// The procedures of a run's own copy of its table. For the loops of a run and of the choice writer.
-pub fn map_own(own: &[u32; 5256], map: &mut [u32; 273])
-    requires { ⌜ rowsOf (now own) ≤ 256 ⌝ }
-    ensures { λ _. ⌜ Mapped (ownTable (now (own .entry))) (now (map .exit)) ⌝ }
-{
-    let counts = Counts {
-        decls: 34,
-        nodes: 1024,
-        rows: own[134] as usize,
-    };
-    map_procedures(own, counts, map);
-}
-
 // The steps of a run, on its own copy of the table. What a row comes to is worked out from the machine's columns; then the machine takes the
 // step, or the run ends. It is done at the end of main, with no caller.
 fn run_steps(
@@ -98,21 +82,7 @@ fn run_steps(
             return ran_to(End::OutOfSteps, steps, at, m, stack);
         }
         let w = move_of(
-            at,
-            &own,
-            cells,
-            list,
-            m.row,
-            &m.numbers,
-            &m.bases,
-            m.open,
-            &m.loop_rows,
-            &m.starts,
-            &m.ends,
-            m.count,
-            &m.firsts,
-            &m.lengths,
-            &m.shapes,
+            at, &own, cells, list, m.row, &m.numbers, &m.bases, m.open, &m.loop_rows, &m.starts, &m.ends, m.count, &m.firsts, &m.lengths, &m.shapes,
             stack[DEPTH],
         );
         let Worked::Moves(change, next) = w else {

@@ -32,7 +32,7 @@ decimal = valueAt decimalBy []
 abbrev pub part : String → ℕ → List ℕ
 part name n = bytes name ++ decimal n
 
--- an end by its word (rule 8.4), a failure with its reason (rule 8.17); no run of a machine ends with `full`
+-- an end by its word (rule 8.4, of a ninth call 8.23), a failure with its reason (rule 8.17); no run of a machine ends with `full`
 abbrev pub endText : End → List ℕ
 endText done = bytes "done"
 endText assertFalse = bytes "assert"

@@ -9,35 +9,36 @@ use Rattle.calls.proofs.give_back.Tie as tie
 
 home-at-requires-2 : tie.Need-home-at-requires-2
 home-at-requires-2 c κs =
-    let start = c .before .before .before .before .before .before .before .before .before in
+    let start = c .before .before .before .before .before .before .before .before .before .before in
     omega (arith, back-there _ _ (start .pre .0) _ _ (start .pre .1), start .pre .0 .rows)
 
 hand-over-requires : tie.Need-hand-over-requires
 hand-over-requires c κs =
-    let start = c .before .before .before .before .before .before .before .before .before .before .before in
+    let start = c .before .before .before .before .before .before .before .before .before .before .before .before in
     let back = back-there _ _ (start .pre .0) _ _ (start .pre .1) in
     (start .pre .0 .decls, locals-fit _ _ (start .pre .0) _ (start .pre .1 .row) (c .before .before .home-at .ensures),
     locals-fit _ _ (start .pre .0) _ back (c .before .home-at2 .ensures))
 
 element-write-ns : tie.Need-element-write-ns
 element-write-ns c =
-    let start = c .before .before .before .before .before .before .before .before .before .before .before .before .before in
-    omega (arith, receives _ _ (start .pre .0) _ _ (start .pre .1), start .pre .0 .decls, c .row-word .ensures)
+    let worded = c .before .before .before .before .before in
+    let start = worded .before .before .before .before .before .before .before .before in
+    omega (arith, receives _ _ (start .pre .0) _ _ (start .pre .1), start .pre .0 .decls, worded .row-word .ensures)
 
 add-next : tie.Need-add-next
 add-next c =
-    let over = c .before .before .before .before .before .before in
-    let start = over .before .before .before .before .before .before .before .before .before .before .before .before in
+    let start = c .before .before .before .before .before .before .before .before .before .before .before .before .before .before .before .before .before .before in
     omega (arith, back-there _ _ (start .pre .0) _ _ (start .pre .1), start .pre .0 .rows)
 
 returns : tie.Need-returns
 returns c =
-    let over = c .before .before .before .before .before .before in
-    let start = over .before .before .before .before .before .before .before .before .before .before .before .before in
+    let over = c .before .before .before .before .before in
+    let worded = over .before .before .before .before .before in
+    let start = worded .before .before .before .before .before .before .before .before in
     let home = over .before .before .before .home-at .ensures in
     let target = over .before .before .home-at2 .ensures in
     returned _ _ (start .pre .0) _ _ (start .pre .1) _ _ (over .hand-over .ensures .0) home target (over .hand-over .ensures .1)
-        (c .before .before .before .before .before .row-word .ensures) (c .take-back .ensures)
+        (worded .row-word .ensures) (c .take-back .ensures)
 
 pub give-back-spec : {M : Type 1} → statement M
 give-back-spec =
@@ -65,10 +66,10 @@ give-back-spec =
     (λ c. search needs)
     (λ c. search needs)
     (λ c κs. search needs)
+    (λ c. search needs)
+    (λ c κs. search needs)
     home-at-requires-2
     hand-over-requires
-    (λ c κs. search needs)
-    (λ c. search needs)
     (λ c. search needs)
     element-write-ns
     (λ c κs. search needs)

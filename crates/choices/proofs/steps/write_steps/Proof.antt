@@ -17,13 +17,12 @@ use Rattle.machine.specs.declared.Move.{Move}
 use Rattle.machine.specs.declared.Worked.the-variants.{Moves}
 use Rattle.machine.specs.View.{ownState}
 use Rattle.machine.specs.CodeMoves.{stateAfter, Can, Sized}
-use Rattle.calls.specs.Turns.{Procedures}
+use Rattle.calls.specs.CallAndReturn.{Procedures}
 use Rattle.machine.proofs.Machine.{the-type as machine}
-use Rattle.machine.proofs.TurnLaws.{called-state, returned-state}
 use Rattle.runs.specs.declared.Ran.{Ran}
 use Rattle.runs.specs.CodeSteps.{kept}
 use Rattle.runs.proofs.ReadyLaws.{within}
-use Rattle.runs.proofs.TurnLaws.{turns, procedures-own, table-going, going-on-copy, done-on-copy}
+use Rattle.runs.proofs.CallingLaws.{calls-fit, procedures-own, table-going, going-on-copy, done-on-copy}
 use Rattle.choices.specs.CodeSteps.{countOf, WriterWrites}
 use Rattle.choices.proofs.CopyLaws.{copy-plain}
 use Rattle.choices.proofs.WriteLaws.{Left, Handed, Recorded, writes-own, left-all, left-done, left-out, bounds, few-numbers, inside-list}
@@ -124,7 +123,7 @@ recorded c =
       sized = h .inv .2;
       kept = c .recorded-move .kept .1 .1 .0 ∙ h .inv .2;
       row = c .recorded-move .ensures _ (h .stack) refl
-          (turns _ (L .frame) _ (L .copied) (h .m) (h .stack) (h .cells) (L .ready) _ (head c .before .map-own .ensures)
+          (calls-fit _ (L .frame) _ (L .copied) (h .m) (h .stack) (h .cells) (L .ready) _ (head c .before .map-own .ensures)
           (table-going _ (L .frame) _ (L .copied) (h .m) (h .stack) (h .cells) (L .ready) (going (inside c))));
     }
 
@@ -299,35 +298,28 @@ loop-again-6 c =
     let q = c .before .before .before .before in
     again q (c .before .before .change5 .given .1) _ _ _ _ _ (c .leave .ensures) refl refl (sized (c .leave .result) (c .leave .ok)) refl
 
-call-requires : tie.Need-call-requires Inv-loop μ-loop
-call-requires c κs =
-    let d = c .before .before .before .before .before .before .before .before .before .before .before .before in
+after-call-requires : tie.Need-after-call-requires Inv-loop μ-loop
+after-call-requires c κs =
+    let d = c .before .before .before .before in
     let q = d .before .before in
     (procedures (head (recording (counting (writing q)))), can q (d .change6 .given .1) .1)
 
 loop-again-7 : tie.Need-loop-again-7 Inv-loop μ-loop
-unfolding stateAfter
 loop-again-7 c =
-    let d = c .before .before .before .before .before .before .before .before .before .before .before .before .before .before in
-    let q = d .before .before in
-    let z = head (recording (counting (writing q))) .loop in
-    again q (d .change6 .given .1) _ _ _ _ _ (c .begin .ensures) refl (called-state _ (z .stack) (z .m) (z .cells) (c .before .call .ensures))
-    (sized (c .begin .result) (c .begin .ok)) refl
+    let d = c .before .before .before .before .before in
+    again (d .before .before) (d .change6 .given .1) _ _ _ _ _ refl refl (c .after-call .ensures _) (sized (c .after-call .result) (c .after-call .ok)) refl
 
-give-back-requires : tie.Need-give-back-requires Inv-loop μ-loop
-give-back-requires c κs =
-    let d = c .before .before .before .before .before .before .before .before .before .before .before .before in
+after-return-requires : tie.Need-after-return-requires Inv-loop μ-loop
+after-return-requires c κs =
+    let d = c .before .before .before .before in
     let q = d .before .before in
     (procedures (head (recording (counting (writing q)))), can q (d .change7 .given .1) .1)
 
 loop-again-8 : tie.Need-loop-again-8 Inv-loop μ-loop
-unfolding stateAfter
 loop-again-8 c =
-    let d = c .before .before .before .before .before .before .before .before .before .before .before .before .before .before in
-    let q = d .before .before in
-    let z = head (recording (counting (writing q))) .loop in
-    again q (d .change7 .given .1) _ _ _ _ _ (c .resume .ensures) refl (returned-state _ (z .stack) (z .m) (z .cells) (c .before .give-back .ensures))
-    (sized (c .resume .result) (c .resume .ok)) refl
+    let d = c .before .before .before .before .before in
+    again (d .before .before) (d .change7 .given .1) _ _ _ _ _ refl refl (c .after-return .ensures _)
+    (sized (c .after-return .result) (c .after-return .ok)) refl
 
 returns-4 : tie.Need-returns-4 Inv-loop μ-loop
 returns-4 c =
@@ -401,14 +393,12 @@ write-steps-spec =
     (λ c. less (c .before .before .before .before))
     loop-again-6
     (λ c. search needs)
-    call-requires
-    (λ c κs. search needs)
-    (λ c. less (c .before .before .before .before .before .before .before .before .before .before .before .before .before .before .before .before))
+    after-call-requires
+    (λ c. less (c .before .before .before .before .before .before .before))
     loop-again-7
     (λ c. search needs)
-    give-back-requires
-    (λ c κs. search needs)
-    (λ c. less (c .before .before .before .before .before .before .before .before .before .before .before .before .before .before .before .before))
+    after-return-requires
+    (λ c. less (c .before .before .before .before .before .before .before))
     loop-again-8
     (λ c κs. search needs)
     (λ c. search needs)

@@ -48,7 +48,7 @@ looped-requires-2 c κs =
 
 returns : tie.Need-returns
 unfolding rowKind
-returns c map stack ed turns =
+returns c map stack ed calling =
     let w = c .before in
     let s = w .before .before .before .before .before .before in
     let g = s .args in
@@ -60,7 +60,7 @@ returns c map stack ed turns =
 
 returns-2 : tie.Need-returns-2
 unfolding rowKind
-returns-2 c map stack ed turns =
+returns-2 c map stack ed calling =
     let w = c .before .before in
     let s = w .before .before .before .before .before .before in
     let g = s .args in
@@ -72,7 +72,7 @@ returns-2 c map stack ed turns =
 
 returns-3 : tie.Need-returns-3
 unfolding rowKind
-returns-3 c map stack ed turns =
+returns-3 c map stack ed calling =
     let w = c .before .before in
     let s = w .before .before .before .before .before .before in
     let g = s .args in
@@ -84,7 +84,7 @@ returns-3 c map stack ed turns =
 
 returns-4 : tie.Need-returns-4
 unfolding rowKind
-returns-4 c map stack ed turns =
+returns-4 c map stack ed calling =
     let w = c .before .before .before in
     let s = w .before .before .before .before .before .before in
     let g = s .args in
@@ -98,7 +98,7 @@ returns-4 c map stack ed turns =
 
 returns-5 : tie.Need-returns-5
 unfolding rowKind
-returns-5 c map stack ed turns =
+returns-5 c map stack ed calling =
     let w = c .before .before .before in
     let s = w .before .before .before .before .before .before in
     let g = s .args in
@@ -112,7 +112,7 @@ returns-5 c map stack ed turns =
 
 returns-6 : tie.Need-returns-6
 unfolding rowKind
-returns-6 c map stack ed turns =
+returns-6 c map stack ed calling =
     let w = c .before .before .before in
     let s = w .before .before .before .before .before .before in
     let g = s .args in
@@ -127,7 +127,7 @@ returns-6 c map stack ed turns =
 
 returns-7 : tie.Need-returns-7
 unfolding rowKind
-returns-7 c map stack ed turns =
+returns-7 c map stack ed calling =
     let w = c .before .before in
     let s = w .before .before .before .before .before .before in
     let g = s .args in
@@ -140,7 +140,7 @@ returns-7 c map stack ed turns =
 
 returns-8 : tie.Need-returns-8
 unfolding rowKind
-returns-8 c map stack ed turns =
+returns-8 c map stack ed calling =
     let w = c .before .before in
     let s = w .before .before .before .before .before .before in
     let g = s .args in
@@ -153,7 +153,7 @@ returns-8 c map stack ed turns =
 
 returns-9 : tie.Need-returns-9
 unfolding rowKind
-returns-9 c map stack ed turns =
+returns-9 c map stack ed calling =
     let w = c .before .before in
     let s = w .before .before .before .before .before .before in
     let g = s .args in
@@ -165,7 +165,7 @@ returns-9 c map stack ed turns =
 
 returns-10 : tie.Need-returns-10
 unfolding rowKind
-returns-10 c map stack ed turns =
+returns-10 c map stack ed calling =
     let w = c .before .before .before in
     let s = w .before .before .before .before .before .before in
     let g = s .args in
@@ -180,7 +180,7 @@ returns-10 c map stack ed turns =
 
 returns-11 : tie.Need-returns-11
 unfolding rowKind
-returns-11 c map stack ed turns =
+returns-11 c map stack ed calling =
     let w = c .before .before in
     let s = w .before .before .before .before .before .before in
     let g = s .args in
@@ -192,7 +192,7 @@ returns-11 c map stack ed turns =
     (s .pre .0 .sized .rows) (s .pre .0 .sized .starts) (s .pre .0 .sized .ends))
 
 returns-12 : tie.Need-returns-12
-returns-12 c map stack ed turns =
+returns-12 c map stack ed calling =
     let w = c .before in
     let s = w .before .before .before .before .before .before in
     let g = s .args in
@@ -200,10 +200,10 @@ returns-12 c map stack ed turns =
         (g .hs .now) in
     step-ends (g .own .now) stack m (g .cells .now) (g .list .now) (g .at) (s .pre .1)
     (w .before .before .before .row-word .ensures) (w .before .before .row-word2 .ensures) (w .before .row-word3 .ensures) (w .row-word4 .ensures)
-    map turns (c .match .keys12)
+    map calling (c .match .keys12)
 
 returns-13 : tie.Need-returns-13
-returns-13 c map stack ed turns =
+returns-13 c map stack ed calling =
     let w = c .before .before .before in
     let s = w .before .before .before .before .before .before in
     let g = s .args in
@@ -211,10 +211,10 @@ returns-13 c map stack ed turns =
         (g .hs .now) in
     works-by (step-returns (g .own .now) stack m (g .cells .now) (g .list .now) (g .at) (s .pre .1)
     (w .before .before .before .row-word .ensures) (w .before .before .row-word2 .ensures) (w .before .row-word3 .ensures) (w .row-word4 .ensures)
-    map turns (c .before .before .match .keys13) (c .before .uint-at3 .result) (c .before .uint-at3 .ensures)) (c .returned .ensures)
+    map calling (c .before .before .match .keys13) (c .before .uint-at3 .result) (c .before .uint-at3 .ensures)) (c .returned .ensures)
 
 returns-14 : tie.Need-returns-14
-returns-14 c map stack ed turns =
+returns-14 c map stack ed calling =
     let w = c .before .before .before .before in
     let s = w .before .before .before .before .before .before in
     let g = s .args in
@@ -222,12 +222,12 @@ returns-14 c map stack ed turns =
         (g .hs .now) in
     works-by (step-calls (g .own .now) stack m (g .cells .now) (g .list .now) (g .at) (s .pre .1)
     (w .before .before .before .row-word .ensures) (w .before .before .row-word2 .ensures) (w .before .row-word3 .ensures) (w .row-word4 .ensures)
-    map turns (c .before .before .before .match .keys14) (s .pre .0) (g .depth) (c .before .before .row-word5 .result) ed
+    map calling (c .before .before .before .match .keys14) (s .pre .0) (g .depth) (c .before .before .row-word5 .result) ed
     (c .before .before .row-word5 .ensures ∙ sym (w .before .before .row-word2 .ensures)) (c .before .uint-at4 .result) (c .before .uint-at4 .ensures))
     (c .called .ensures)
 
 returns-15 : tie.Need-returns-15
-returns-15 c map stack ed turns =
+returns-15 c map stack ed calling =
     let w = c .before in
     let s = w .before .before .before .before .before .before in
     let g = s .args in

@@ -103,13 +103,13 @@ record-repeat-requires c κs =
 
 returns : tie.Need-returns
 unfolding rowKind
-returns d map stack ed turns =
+returns d map stack ed calling =
     let w = d .before in
     of-kind w stack 32 _ (d .match .keys1) refl (records-skip (own w) (m w) (cells w) (held w) (out w) (a w) (b w) (c w))
 
 returns-2 : tie.Need-returns-2
 unfolding rowKind
-returns-2 d map stack ed turns =
+returns-2 d map stack ed calling =
     let w = d .before .before .before .before .before in
     let g = start w .args in
     of-kind w stack 33 _ (d .before .before .before .before .match .keys2) refl
@@ -117,7 +117,7 @@ returns-2 d map stack ed turns =
 
 returns-3 : tie.Need-returns-3
 unfolding rowKind
-returns-3 d map stack ed turns =
+returns-3 d map stack ed calling =
     let w = d .before .before .before .before .before in
     let g = start w .args in
     of-kind w stack 34 _ (d .before .before .before .before .match .keys3) refl
@@ -125,7 +125,7 @@ returns-3 d map stack ed turns =
 
 returns-4 : tie.Need-returns-4
 unfolding rowKind
-returns-4 d map stack ed turns =
+returns-4 d map stack ed calling =
     let w = d .before .before .before .before .before .before in
     of-kind w stack 35 _ (d .before .before .before .before .before .match .keys4) refl
     (records-assert (own w) (m w) (cells w) (held w) (out w) _ (a w) (b w) (c w) _ (d .before .before .before .record-bool .ensures)
@@ -133,7 +133,7 @@ returns-4 d map stack ed turns =
 
 returns-5 : tie.Need-returns-5
 unfolding rowKind
-returns-5 d map stack ed turns =
+returns-5 d map stack ed calling =
     let w = d .before .before .before .before .before .before in
     of-kind w stack 36 _ (d .before .before .before .before .before .match .keys5) refl
     (records-assume (own w) (m w) (cells w) (held w) (out w) _ (a w) (b w) (c w) _ (d .before .before .before .record-bool2 .ensures)
@@ -141,7 +141,7 @@ returns-5 d map stack ed turns =
 
 returns-6 : tie.Need-returns-6
 unfolding rowKind
-returns-6 d map stack ed turns =
+returns-6 d map stack ed calling =
     let w = d .before .before .before .before .before .before in
     of-kind w stack 37 _ (d .before .before .before .before .before .match .keys6) refl
     (records-array (own w) (m w) (cells w) (held w) (out w) _ (a w) (b w) (c w) _ (fits w .decls) (fits w .sized)
@@ -149,7 +149,7 @@ returns-6 d map stack ed turns =
 
 returns-7 : tie.Need-returns-7
 unfolding rowKind
-returns-7 d map stack ed turns =
+returns-7 d map stack ed calling =
     let w = d .before .before .before .before .before in
     let g = start w .args in
     of-kind w stack 38 _ (d .before .before .before .before .match .keys7) refl
@@ -158,33 +158,33 @@ returns-7 d map stack ed turns =
 
 returns-8 : tie.Need-returns-8
 unfolding rowKind
-returns-8 d map stack ed turns =
+returns-8 d map stack ed calling =
     let w = d .before .before .before .before .before in
     let g = start w .args in
     of-kind w stack 39 _ (d .before .before .before .before .match .keys8) refl
     (d .before .before .record-repeat .ensures (a w) (b w) (c w) (g .count) (g .bs .now) (g .fs .now) (g .ls .now) (g .hs .now) (cells w) (held w))
 
 returns-9 : tie.Need-returns-9
-returns-9 d map stack ed turns =
+returns-9 d map stack ed calling =
     let w = d .before in
-    records-ends (own w) stack (m w) (cells w) (held w) (out w) (there w) (kind w) (first w) (second w) (third w) map turns (d .match .keys9)
+    records-ends (own w) stack (m w) (cells w) (held w) (out w) (there w) (kind w) (first w) (second w) (third w) map calling (d .match .keys9)
 
 returns-10 : tie.Need-returns-10
-returns-10 d map stack ed turns =
+returns-10 d map stack ed calling =
     let w = d .before .before .before .before .before .before in
-    records-returns (own w) stack (m w) (cells w) (held w) (out w) (there w) (kind w) (first w) (second w) (third w) _ map turns _
+    records-returns (own w) stack (m w) (cells w) (held w) (out w) (there w) (kind w) (first w) (second w) (third w) _ map calling _
     (d .before .before .before .before .before .match .keys10) (d .before .before .before .record-uint2 .ensures) (d .returned .ensures)
 
 returns-11 : tie.Need-returns-11
-returns-11 d map stack ed turns =
+returns-11 d map stack ed calling =
     let u = d .before .before .before in
     let w = u .before .before .before .before in
-    records-calls (own w) stack (m w) (cells w) (held w) (out w) (there w) (kind w) (first w) (second w) (third w) _ map turns _
+    records-calls (own w) stack (m w) (cells w) (held w) (out w) (there w) (kind w) (first w) (second w) (third w) _ map calling _
     (u .before .before .before .match .keys11) (fits w) (start w .args .depth) (u .before .before .row-word5 .result) ed
     (u .before .before .row-word5 .ensures ∙ sym (first w)) (u .record-uint3 .ensures) (d .called .ensures)
 
 returns-12 : tie.Need-returns-12
-returns-12 d map stack ed turns =
+returns-12 d map stack ed calling =
     let w = d .before in
     let r = d .match .rest in
     records-none (own w) stack (m w) (cells w) (held w) (out w) (there w) (kind w) (first w) (second w) (third w) _ (start w .pre .1)

@@ -9,7 +9,7 @@ use Rattle.procedures.specs.Map.{Mapped}
 use Rattle.prepared.specs.Own.{ownTable}
 use Rattle.machine.specs.CodeMoves.{Sized}
 use Rattle.runs.proofs.ReadyLaws.{Left, left-all, left-done, left-out, left-again, left-stop, within, step-bounds, numbers-left, reports-own}
-use Rattle.runs.proofs.TurnLaws.{turns, procedures-own, table-going, going-on-copy, done-on-copy}
+use Rattle.runs.proofs.CallingLaws.{calls-fit, procedures-own, table-going, going-on-copy, done-on-copy}
 use Rattle.runs.proofs.steps.run_steps.Statement.{statement}
 use Rattle.runs.proofs.steps.run_steps.Tie as tie
 
@@ -83,7 +83,7 @@ returns-2 c =
         (rw (head .inv .3) at (c .before .before .before .before .before .before .before .before .before .before .before .before .before .before .before .loop-test .taken)) in
     let u : head .steps < g .limit = omega (arith, L .upto, c .before .before .before .before .before .before .before .before .before .before .before .before .before .before .if1 .left) in
     let works = c .before .before .move-of .ensures _ (head .stack) refl
-        (turns (g .t .now) (L .frame) _ (L .copied) (head .m) (head .stack) (head .cells) (L .ready) _ (head .inv .2)
+        (calls-fit (g .t .now) (L .frame) _ (L .copied) (head .m) (head .stack) (head .cells) (L .ready) _ (head .inv .2)
         (table-going (g .t .now) (L .frame) _ (L .copied) (head .m) (head .stack) (head .cells) (L .ready) going)) in
     reports-own (g .t .now) (g .f) _ (c .before .before .before .before .before .before .before .before .before .before .before .before .before .before .before .before .before .before .before .before .before .lay-out .ensures) (g .t1) (g .t2) (g .cells .now) (c .before .before .before .before .before .before .before .before .before .before .before .before .before .before .before .before .before .before .before .before .before .before .before .before .before .before .pre)
     (g .list .now) (g .limit) (c .stopped .result) (head .cells)
@@ -98,7 +98,7 @@ step-requires c κs =
     let going = going-on-copy (g .t .now) (L .frame) _ (L .copied) (head .m) (head .stack) (head .cells) (L .ready) _ (head .inv .2)
         (rw (head .inv .3) at (c .before .before .before .before .before .before .before .before .before .before .before .before .before .before .before .before .before .before .before .before .loop-test .taken)) in
     let works = c .before .before .before .before .before .before .before .move-of .ensures _ (head .stack) refl
-        (turns (g .t .now) (L .frame) _ (L .copied) (head .m) (head .stack) (head .cells) (L .ready) _ (head .inv .2)
+        (calls-fit (g .t .now) (L .frame) _ (L .copied) (head .m) (head .stack) (head .cells) (L .ready) _ (head .inv .2)
         (table-going (g .t .now) (L .frame) _ (L .copied) (head .m) (head .stack) (head .cells) (L .ready) going)) in
     let bounds = step-bounds (g .t .now) (L .frame) _ (L .copied) (head .m) (head .stack) (head .cells) (L .ready) (g .list .now) (head .at) works
         (c .before .before .before .before .before .w .given .1) in
@@ -127,7 +127,7 @@ loop-again c =
         (rw (head .inv .3) at (c .before .before .before .before .before .before .before .before .before .before .before .before .before .before .before .before .before .before .before .before .before .before .before .loop-test .taken)) in
     let u : head .steps < g .limit = omega (arith, L .upto, c .before .before .before .before .before .before .before .before .before .before .before .before .before .before .before .before .before .before .before .before .before .before .if1 .left) in
     let works = c .before .before .before .before .before .before .before .before .before .before .move-of .ensures _ (head .stack) refl
-        (turns (g .t .now) (L .frame) _ (L .copied) (head .m) (head .stack) (head .cells) (L .ready) _ (head .inv .2)
+        (calls-fit (g .t .now) (L .frame) _ (L .copied) (head .m) (head .stack) (head .cells) (L .ready) _ (head .inv .2)
         (table-going (g .t .now) (L .frame) _ (L .copied) (head .m) (head .stack) (head .cells) (L .ready) going)) in
     let stepped = c .before .before .step in
     let held = stepped .ok .1 .1 in

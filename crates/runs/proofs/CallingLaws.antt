@@ -27,11 +27,11 @@ use Rattle.prepared.specs.Same.{Same}
 use Rattle.prepared.proofs.SameLaws.{own-same, own-limits, same-form}
 use Rattle.procedures.specs.Map.{Mapped}
 use Rattle.calls.specs.Stack.{callerWords, depthOf, lastAt, callerAt, callersOf}
-use Rattle.calls.specs.Turns.{LocalsFit, Procedures, CanReturn, lastOf, receiver}
+use Rattle.calls.specs.CallAndReturn.{LocalsWithin, Procedures, CanReturn, lastOf, receiver}
 use Rattle.machine.specs.declared.Machine.{Machine}
 use Rattle.machine.specs.View.{stateOf, ownState}
-use Rattle.machine.specs.CodeMoves.{Turns}
-use Rattle.machine.proofs.TurnLaws.{depth-length}
+use Rattle.machine.specs.CodeMoves.{CallsFit}
+use Rattle.machine.proofs.CallingLaws.{depth-length}
 use Rattle.records.specs.RecordPromises.{CanBe}
 use Rattle.records.proofs.ProcedureLaws.{LocalsRight, few-procedures, locals-right}
 use Rattle.runs.specs.CodeSteps.{Ready, kept}
@@ -69,10 +69,10 @@ module _ (t : List ℕ) (f : Frame) (own : List ℕ) (O : Own t f own) (m : Mach
         decls = limits .0;
         rows = limits .1;
         mapped = M;
-        locals = λ r h. subst (LocalsFit own) (sym (same .locals r)) (fit r (omega (numbers, h, O .rows)));
+        locals = λ r h. subst (LocalsWithin own) (sym (same .locals r)) (fit r (omega (numbers, h, O .rows)));
       }
     where
-      fit : (r : ℕ) → r ≤ f .counts .rows → LocalsFit own (localsAt table r)
+      fit : (r : ℕ) → r ≤ f .counts .rows → LocalsWithin own (localsAt table r)
       fit r h =
           let L = locals-right (kindOf f) table (R .accepted) r h in
           record {
@@ -118,8 +118,8 @@ module _ (t : List ℕ) (f : Frame) (own : List ℕ) (O : Own t f own) (m : Mach
         uint = r .1;
       }
 
-  pub turns : (map : List ℕ) → Mapped (ownTable own) map → finished table (stateOf t f (kept m stack) cells) ≡ false → Turns own map stack m cells
-  turns map M going = record {
+  pub calls-fit : (map : List ℕ) → Mapped (ownTable own) map → finished table (stateOf t f (kept m stack) cells) ≡ false → CallsFit own map stack m cells
+  calls-fit map M going = record {
     procedures = procedures-own map M;
     few = depth-few;
     numbers = λ e h. few-procedures (kindOf f) table (R .accepted) (rowAt (ownTable own) (m .row) .a)

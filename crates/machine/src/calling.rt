@@ -9,11 +9,11 @@ ghost use mathlib.Core.Path.{_≡_};
 ghost use Rattle.machine.specs.CodeRows.{calledOf, returnedOf};
 
 // Row 45, with so many callers.
-pub fn called(depth: u32, k: u32, x: Answer) -> Worked
-    ensures { λ r. ⌜ r ≡ calledOf depth k x ⌝ }
+pub fn called(depth: u32, k: u32, argument: Answer) -> Worked
+    ensures { λ r. ⌜ r ≡ calledOf depth k argument ⌝ }
 {
-    let Answer::Uint(v, at) = x else {
-        return lost(x);
+    let Answer::Uint(v, at) = argument else {
+        return lost(argument);
     };
     if Record::CALLERS <= depth {
         return Worked::Ends(End::TooDeep, at);

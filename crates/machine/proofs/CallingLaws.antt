@@ -28,14 +28,14 @@ use Rattle.evaluators.specs.declared.answers.Answer.the-variants.{Bool as ABool
 use Rattle.evaluators.specs.CodeAnswers.{outOf, OfType, Answers, operand}
 use Rattle.calls.specs.declared.Stood.{Stood}
 use Rattle.calls.specs.Stack.{depthOf, loopsOf, callersOf}
-use Rattle.calls.specs.Turns.{CanCall, CanReturn, Called, Returned}
+use Rattle.calls.specs.CallAndReturn.{CanCall, CanReturn, Called, Returned}
 use Rattle.machine.specs.declared.Machine.{Machine}
 use Rattle.machine.specs.declared.Move.the-variants.{Calls, Returns}
 use Rattle.machine.specs.declared.End.the-variants.{TooDeep}
 use Rattle.machine.specs.declared.Worked.{Worked}
 use Rattle.machine.specs.declared.Worked.the-variants.{Moves, Ends, Not}
 use Rattle.machine.specs.View.{ownState}
-use Rattle.machine.specs.CodeMoves.{begun, resumed, calledBy, returnedBy, stateAfter, moveOut, CanDo, Works, RowWorks, Within, Turns}
+use Rattle.machine.specs.CodeMoves.{begun, resumed, calledBy, returnedBy, stateAfter, moveOut, CanDo, Works, RowWorks, Within, CallsFit}
 use Rattle.machine.specs.CodeRows.{lostOf, onUint, calledOf, returnedOf}
 use Rattle.machine.proofs.PutLaws.{works-same, lost-not, lends}
 
@@ -112,7 +112,7 @@ going-uint (AUint v at) k j p h w =
 going-uint (APointer r v at) k j p h w = absurd (p .typed)
 going-uint (NoValue why at) k j p h w = lost-not uint why at j p
 
-module _ (own map stack : List ℕ) (m : Machine) (cells l : List ℕ) (turns : Turns own map stack m cells) where
+module _ (own map stack : List ℕ) (m : Machine) (cells l : List ℕ) (calling : CallsFit own map stack m cells) where
   abbrev t : Table
   t = ownTable own
 
@@ -129,7 +129,7 @@ module _ (own map stack : List ℕ) (m : Machine) (cells l : List ℕ) (turns : 
   unfolding moveOut stateAfter CanDo
   back-works x at h = record {
     said = sym (return-goes t s (s .callers) x (drop at l) h);
-    can = turns .last (some (depthOf stack) refl);
+    can = calling .last (some (depthOf stack) refl);
   }
     where
       some : (d : ℕ) → depthOf stack ≡ d → 1 ≤ depthOf stack
@@ -160,7 +160,7 @@ module _ (own map stack : List ℕ) (m : Machine) (cells l : List ℕ) (turns : 
             said = sym (goes .1);
             can = record {
               row = fits .row;
-              number = rw ek (turns .numbers kind (rw ek at (goes .0)));
+              number = rw ek (calling .numbers kind (rw ek at (goes .0)));
               there = goes .0;
               few = omega (arith, leb-false 8 depth e, ed);
             };

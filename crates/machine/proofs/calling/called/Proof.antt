@@ -7,8 +7,8 @@ use borrow.Author.Tests.{le-leb, lt-leb}
 use Rattle.machine.specs.CodeRows.{onUint, calledOf}
 use Rattle.machine.proofs.PutLaws.{lost-uint}
 use borrow.Author.Needs.{needs}
-use Rattle.machine.proofs.turns.called.Statement.{statement}
-use Rattle.machine.proofs.turns.called.Tie as tie
+use Rattle.machine.proofs.calling.called.Statement.{statement}
+use Rattle.machine.proofs.calling.called.Tie as tie
 
 returns : tie.Need-returns
 unfolding calledOf
@@ -18,13 +18,13 @@ returns-2 : tie.Need-returns-2
 unfolding onUint calledOf
 returns-2 c =
     let deep : 8 ≤ c .before .before .before .before .args .depth = omega (arith, c .if1 .taken) in
-    rw (c .before .before .x .given .1, le-leb 8 (c .before .before .before .before .args .depth) deep)
+    rw (c .before .before .argument .given .1, le-leb 8 (c .before .before .before .before .args .depth) deep)
 
 returns-3 : tie.Need-returns-3
 unfolding onUint calledOf
 returns-3 c =
     let room : c .before .before .before .before .args .depth < 8 = omega (arith, c .if1 .left) in
-    rw (c .before .before .x .given .1, lt-leb 8 (c .before .before .before .before .args .depth) room)
+    rw (c .before .before .argument .given .1, lt-leb 8 (c .before .before .before .before .args .depth) room)
 
 pub called-spec : {M : Type 1} → statement M
 called-spec = tie.close (tie.spec (λ c. search needs) (λ c κs. search needs) returns returns-2 returns-3)

@@ -4,8 +4,8 @@ use mathlib.Core.Path.{_∙_}
 use Rattle.machine.specs.CodeRows.{onUint, returnedOf}
 use Rattle.machine.proofs.PutLaws.{lost-uint}
 use borrow.Author.Needs.{needs}
-use Rattle.machine.proofs.turns.returned.Statement.{statement}
-use Rattle.machine.proofs.turns.returned.Tie as tie
+use Rattle.machine.proofs.calling.returned.Statement.{statement}
+use Rattle.machine.proofs.calling.returned.Tie as tie
 
 returns : tie.Need-returns
 unfolding returnedOf

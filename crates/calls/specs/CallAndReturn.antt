@@ -14,7 +14,7 @@ use Rattle.calls.specs.declared.Stood.{Stood}
 use Rattle.calls.specs.Stack.{depthOf, lastAt, loopsOf, callerAt, callersOf}
 
 -- at most four locals, all of them declared uints that hold no class (rule 1.21)
-pub record LocalsFit (own : List ℕ) (l : Stretch) : Type 0 where
+pub record LocalsWithin (own : List ℕ) (l : Stretch) : Type 0 where
   pub few : l .count ≤ 4
   pub there : l .first + l .count ≤ declsOf own
   pub uints : (i : ℕ) → i < l .count → ownForm own (l .first + i) ≡ FUint
@@ -25,7 +25,7 @@ pub record Procedures (own map : List ℕ) : Type 0 where
   pub decls : declsOf own ≤ 32
   pub rows : rowsOf own ≤ 256
   pub mapped : Mapped (ownTable own) map
-  pub locals : (r : ℕ) → r ≤ rowsOf own → LocalsFit own (localsAt (ownTable own) r)
+  pub locals : (r : ℕ) → r ≤ rowsOf own → LocalsWithin own (localsAt (ownTable own) r)
 
 -- ---- a call of procedure k from the row `here`: there is such a procedure, and no more than seven callers
 pub record CanCall (own stack : List ℕ) (here k : ℕ) : Type 0 where
