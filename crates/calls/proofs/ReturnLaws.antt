@@ -17,7 +17,7 @@ use Rattle.prepared.specs.Own.{declsOf, rowsOf, ownTable, ownForm, ownVars}
 use Rattle.prepared.proofs.VarLaws.{vars-number}
 use Rattle.calls.specs.Stack.{depthOf, part, callerAt, lastAt, callersOf}
 use Rattle.calls.specs.CallAndReturn.{LocalsWithin, Procedures, lastOf, CanReturn, Returned}
-use Rattle.calls.specs.Code.{localsIn, handed, TakenBack}
+use Rattle.calls.specs.Code.{localsIn, handed, PutBack, TakenBack}
 use Rattle.calls.proofs.VarLaws.{locals-at, locals-fit, length-handed, vars-handed}
 use Rattle.calls.proofs.StackLaws.{local-word, callers-split}
 
@@ -70,8 +70,8 @@ module _ (own map : List ℕ) (P : Procedures own map) (stack : List ℕ) (here 
           (λ i h. sym (getD-set-other stack 240 i (depthOf stack - 1) 0 (λ e. omega (arith, C .few))))
 
   -- ---- the whole of it
-  module _ (ns : List ℕ) (x : ℕ) (ns32 : length ns ≡ 32) {from upon c : ℕ} {ns′ : List ℕ} (home : from ≡ getD map (16 + here) 0)
-      (target : upon ≡ getD map (16 + back) 0) (moved : ns′ ≡ handed own ns from upon words) (variable : c ≡ into) where
+  module _ (ns : List ℕ) (x : ℕ) {from upon c : ℕ} {ns′ : List ℕ} (home : from ≡ getD map (16 + here) 0)
+      (target : upon ≡ getD map (16 + back) 0) (moved : PutBack own ns from upon words c x ns′) (variable : c ≡ into) where
     same-held : localsIn own from ≡ localsAt (ownTable own) here
     same-held = locals-at own map P here (C .row) home
 
@@ -85,19 +85,19 @@ module _ (own map : List ℕ) (P : Procedures own map) (stack : List ℕ) (here 
     next = locals-fit own map P back back-there target
 
     vars : (bases : List ℕ)
-        → ownVars own (set ns′ c x) bases
+        → ownVars own ns′ bases
         ≡ set (handedOver (ownVars own ns bases) (localsAt (ownTable own) here) (localsAt (ownTable own) back) (λ i. getD (lastOf own stack .locals) i 0))
             into (Uint x)
     vars bases =
-        let size = length-handed own (P .decls) from upon left next ns ns32 words refl in
-        rw (variable, moved, ← same-held, ← same-given)
+        let size = length-handed own (P .decls) from upon left next ns (moved .size) words refl in
+        rw (moved .then, moved .before, variable, ← same-held, ← same-given)
         (vars-number own (handed own ns from upon words) bases into (Uint x) receives x (omega (arith, size, receives, P .decls)) (rw uint)
         ∙ ap (λ (vs : List Value). set vs into (Uint x))
-            (vars-handed own (P .decls) from upon left next ns ns32 words refl bases (λ i. getD (lastOf own stack .locals) i 0)
+            (vars-handed own (P .decls) from upon left next ns (moved .size) words refl bases (λ i. getD (lastOf own stack .locals) i 0)
                 (λ i h. at-local i (rw same-given at h) (rw same-given at (next .few)))))
 
     pub returned : {rows starts ends : List ℕ} → TakenBack stack at rows starts ends
-        → Returned own ns stack here x (record { row = back + 1; «open» = getD stack (at + 1) 0 }) (set ns′ c x) rows starts ends
+        → Returned own ns stack here x (record { row = back + 1; «open» = getD stack (at + 1) 0 }) ns′ rows starts ends
             (set stack 240 (depthOf stack - 1))
     unfolding callerAt
     returned T = record {

@@ -20,6 +20,13 @@ pasted ns l xs = paste ns (l .first) xs (l .count)
 unfoldable pub handed : List ℕ → List ℕ → ℕ → ℕ → List ℕ → List ℕ
 handed own ns from upon xs = pasted (pasted ns (localsIn own from) (replicate 4 0)) (localsIn own upon) xs
 
+-- the locals are handed over, and then variable c gets x
+pub record PutBack (own ns : List ℕ) (from upon : ℕ) (xs : List ℕ) (c x : ℕ) (ns′ : List ℕ) : Type 0 where
+  pub over : List ℕ
+  pub size : length ns ≡ 32
+  pub before : over ≡ handed own ns from upon xs
+  pub then : ns′ ≡ set over c x
+
 -- the words of a caller from a place on, with the locals of a stretch
 unfoldable pub aside : List ℕ → ℕ → ℕ → ℕ → List ℕ → ℕ → ℕ → List ℕ → List ℕ → List ℕ → List ℕ
 aside stack at row n ns first count rows starts ends =

@@ -6,6 +6,7 @@ mod words; // words.rt: the words of a caller
 use locals::first_local;
 use locals::hand_over;
 use locals::local_count;
+use locals::put_back;
 use kinds::Counts;
 use prepared::own::row_word;
 use procedures::PLACES;
@@ -113,8 +114,7 @@ pub fn give_back(
     let open = stack[at + 1];
     let locals = [stack[at + 2], stack[at + 3], stack[at + 4], stack[at + 5]];
     let c = row_word(own, back, 3) as usize;
-    hand_over(own, ns, home_at(map, row), home_at(map, back), &locals);
-    ns[c] = x;
+    put_back(own, ns, home_at(map, row), home_at(map, back), &locals, c, x);
     take_back(stack, at, loop_rows, starts, ends);
     stack[DEPTH] = depth;
     let next = back + 1;

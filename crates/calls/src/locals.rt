@@ -2,11 +2,11 @@
 use prepared::copies::copy;
 use prepared::own::row_word;
 ghost use mathlib.Core.Path.{_≡_};
-ghost use Prim.Native.Nat.{_≤_};
+ghost use Prim.Native.Nat.{_<_, _≤_};
 ghost use lib.ListN.{length};
 ghost use Rattle.prepared.specs.Own.{declsOf};
 ghost use Rattle.calls.specs.CallAndReturn.{LocalsWithin};
-ghost use Rattle.calls.specs.Code.{localsIn, handed};
+ghost use Rattle.calls.specs.Code.{localsIn, handed, PutBack};
 
 // The first local, and how many there are; main, whose first row is 0, has none (rule 1.21).
 pub(crate) fn first_local(own: &[u32; 5256], home: u32) -> usize
@@ -34,4 +34,14 @@ pub(crate) fn hand_over(own: &[u32; 5256], ns: &mut [u32; 32], from: u32, upon: 
 {
     copy(ns, first_local(own, from), &[0; 4], local_count(own, from));
     copy(ns, first_local(own, upon), xs, local_count(own, upon));
+}
+
+// The locals are handed over, then variable c gets the number; it may be one of them (rule 2.42).
+pub(crate) fn put_back(own: &[u32; 5256], ns: &mut [u32; 32], from: u32, upon: u32, xs: &[u32; 4], c: usize, x: u32)
+    requires { ⌜ (declsOf (now own) ≤ 32) × LocalsWithin (now own) (localsIn (now own) from) × LocalsWithin (now own) (localsIn (now own) upon) ⌝ }
+    requires { ⌜ c < 32 ⌝ }
+    ensures { λ _. ⌜ PutBack (now (own .entry)) (now (ns .entry)) from upon (now (xs .entry)) c x (now (ns .exit)) ⌝ }
+{
+    hand_over(own, ns, from, upon, xs);
+    ns[c] = x;
 }

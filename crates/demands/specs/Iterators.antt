@@ -1,6 +1,7 @@
 -- One iterator, one loop at a time: 16 refuses a loop inside a loop that has its iterator, both in main or both in one procedure (rules 1.18, 6.2,
 -- 6.21 to 6.23). Which tables it refuses and at which line, what that says of runs, who refuses them, and that their files are read; said of the
--- definitions of which those of the public promises are made. That the reduction of a table that passes still passes is in Demand2, `reducedPasses`. Proved in proofs/IteratorsProof.
+-- definitions of which those of the public promises are made. That the reduction of a table that passes still passes is in Demand2, `reducedPasses`.
+-- Proved in proofs/IteratorsProof.
 use mathlib.Core.Path.{_≡_}
 use Prim.Native.Nat.{ℕ, _%_, _^_, _≤_}
 use mathlib.Core.List.{List, map}

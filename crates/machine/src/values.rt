@@ -127,9 +127,9 @@ pub(crate) fn assigned<'a>(
 ) -> Worked
     requires { ⌜ (declsOf (now own) ≤ 32) × (count ≤ 16) × (a < 2 ^ 32) × BoolsFit (now own) (now ns) ⌝ }
     requires { ⌜ (length (now ns) ≡ 32) × (length (now bs) ≡ 32) ⌝ }
-    ensures { λ r. ⌜ ((row «open» c : ℕ) (stack rows starts ends : List ℕ) → RowWorks (now (own .entry)) stack (columns row (now (ns .entry)) (now (bs .entry)) «open»
-        rows starts ends count (now (fs .entry)) (now (ls .entry)) (now (hs .entry))) (now (cells .entry)) (now (list .entry)) assign a b c
-        (drop at (now (list .entry))) r) ⌝ }
+    ensures { λ r. ⌜ ((row «open» c : ℕ) (stack rows starts ends : List ℕ) → RowWorks (now (own .entry)) stack (columns row (now (ns .entry))
+        (now (bs .entry)) «open» rows starts ends count (now (fs .entry)) (now (ls .entry)) (now (hs .entry))) (now (cells .entry)) (now (list .entry))
+        assign a b c (drop at (now (list .entry))) r) ⌝ }
 {
     let kind = word_or_zero(own, 4 * a);
     match kind {

@@ -30,7 +30,8 @@ use denote.Enum.Declared.{tagOf}
 use Rattle.machine.specs.View.{endOf, stateOf}
 use Rattle.evaluators.specs.Reasons.{reasonOf}
 use Rattle.machine.specs.declared.End.{End as CodeEnd}
-use Rattle.machine.specs.declared.End.the-variants.{Done, AssertFalse, AssumeFalse, Fail, WantOfCells, OutOfSteps, ChoiceNotAllowed, NoChoiceLeft, ListFull, TooDeep}
+use Rattle.machine.specs.declared.End.the-variants.{Done, AssertFalse, AssumeFalse, Fail, WantOfCells, OutOfSteps}
+use Rattle.machine.specs.declared.End.the-variants.{ChoiceNotAllowed, NoChoiceLeft, ListFull, TooDeep}
 use Rattle.machine.proofs.End.{the-type as code-end}
 use Rattle.choices.proofs.Demand3Proof.{places-accepted}
 use Rattle.runs.specs.declared.Ran.{Ran}

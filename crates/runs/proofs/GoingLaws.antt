@@ -93,7 +93,8 @@ module _ (t : List ℕ) (f : Frame) (m : Machine) (stack cells ps : List ℕ) (k
               (getD (varsOf t f (m .numbers) (m .bases)) i (Uint 0)) → getD (m .numbers) i 0 ≤ 1
       go true u w v z g = absurd (omega (numbers, ap formCode z))
       go false u bool v z g =
-          let g′ : Holds false (length (stateOf t f (kept m stack) cells .arrays)) bool (getD (varsOf t f (m .numbers) (m .bases)) i (Uint 0)) = rw (u, v) at g in
+          let g′ : Holds false (length (stateOf t f (kept m stack) cells .arrays)) bool (getD (varsOf t f (m .numbers) (m .bases)) i (Uint 0)) =
+              rw (u, v) at g in
           bool-small (getD (m .numbers) i 0) (g′ .0)
               (ap (λ (x : Form). byForm x (getD (m .numbers) i 0) (getD (m .bases) i 0)) (sym e) ∙ sym (var-is i h) ∙ g′ .1)
       go false u uint v z g = absurd (omega (numbers, ap formCode z))

@@ -7,8 +7,12 @@ use mathlib.Core.Bool.{true, false}
 use mathlib.Core.List.{List, [], _∷_}
 use lib.ListN.{length, drop, getD}
 use lib.Dec.{ltb}
+use mir.Val.{Val}
 use types.Run.{OneOf, miss}
+use denote.Laws.{Is}
 use denote.Enum.Declared.{tagOf}
+use denote.Struct.Declared.{row}
+use borrow.Author.Needs.{length-unmapped}
 use Rattle.model.specs.Work.{Out}
 use Rattle.model.specs.Work.Out.{gives}
 use Rattle.lists.specs.Tab.{tab}
@@ -34,6 +38,7 @@ use Rattle.machine.specs.declared.Move.{Move}
 use Rattle.machine.specs.declared.End.the-variants as Code
 use Rattle.machine.specs.declared.Worked.{Worked}
 use Rattle.machine.specs.declared.Worked.the-variants.{Moves, Ends, Not}
+use Rattle.machine.proofs.Machine.{the-type as machine}
 use Rattle.machine.proofs.Worked.{the-type as worked}
 use Rattle.machine.specs.View.{endOf, stateBy, stateOf, ownState}
 use Rattle.machine.specs.CodeMoves.{stateAfter, moveOut, Can, CanDo, StepWorks, Sized, Within}
@@ -143,6 +148,19 @@ module _ (t : List ℕ) (f : Frame) (own : List ℕ) (O : Own t f own) (m : Mach
   step-bounds l at S q =
       let limits = own-limits t f own (R .laid) O in
       (omega (numbers, R .can .here .row, limits .1, O .rows), subst (CanDo own stack m (length cells)) q (S .can))
+
+-- ---- the columns of a machine are as long as its type says
+pub sized : (m : Machine) {vs : List Val} → Is (row machine) m vs → Sized m
+sized m held = record {
+  numbers = length-unmapped ℕ (m .numbers) 32 (held .1 .1 .1 .0 .1 .0 .1);
+  bases = length-unmapped ℕ (m .bases) 32 (held .1 .1 .1 .1 .0 .1 .0 .1);
+  rows = length-unmapped ℕ (m .«loop_rows») 8 (held .1 .1 .1 .1 .1 .1 .0 .1 .0 .1);
+  starts = length-unmapped ℕ (m .starts) 8 (held .1 .1 .1 .1 .1 .1 .1 .0 .1 .0 .1);
+  ends = length-unmapped ℕ (m .ends) 8 (held .1 .1 .1 .1 .1 .1 .1 .1 .0 .1 .0 .1);
+  firsts = length-unmapped ℕ (m .firsts) 16 (held .1 .1 .1 .1 .1 .1 .1 .1 .1 .1 .0 .1 .0 .1);
+  lengths = length-unmapped ℕ (m .lengths) 16 (held .1 .1 .1 .1 .1 .1 .1 .1 .1 .1 .1 .0 .1 .0 .1);
+  shapes = length-unmapped ℕ (m .shapes) 16 (held .1 .1 .1 .1 .1 .1 .1 .1 .1 .1 .1 .1 .0 .1 .0 .1);
+}
 
 -- ---- where a run on the copy stands after some steps, of the run of limit steps from m₀, stack₀ and cells₀. The frame is that of the copy
 pub record Left (t own l : List ℕ) (limit : ℕ) (m₀ : Machine) (stack₀ cells₀ : List ℕ) (m : Machine) (stack cells : List ℕ) (at steps : ℕ) : Type 0 where
@@ -263,6 +281,7 @@ reports-own t f own O m₀ stack₀ cells₀ R l limit r cells e =
 
 -- the choices used are counted within the list
 pub counted : (t : List ℕ) (f : Frame) (l : List ℕ) (r : Ran) (cells : List ℕ) {report : Report} → reportOf t f l r cells ≡ report
-    → (u : ℕ) → (u ≤ length l) × (drop u l ≡ drop (r .used) l) → Reports t f l (ran (r .end) (r .steps) u (r .«record» .machine) (r .«record» .stack)) cells report
+    → (u : ℕ) → (u ≤ length l) × (drop u l ≡ drop (r .used) l)
+    → Reports t f l (ran (r .end) (r .steps) u (r .«record» .machine) (r .«record» .stack)) cells report
 counted t f l r cells e u h =
     record { report = ap (ended (endOf (r .end)) (r .steps) (stateOf t f (r .«record») cells)) (h .1) ∙ e; within = h .0 }

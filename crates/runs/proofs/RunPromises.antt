@@ -83,7 +83,8 @@ fresh-ends m ps ok t pass cells l nl limit = record {
   cannot = λ e h. absurd (h tt);
   ends = λ e h.
       subst (SaysEnd m ps (tableOf t) l) (sym (fresh-is m ps ok t pass l nl limit cells (passes-sized m ps t (length cells) pass ok e) refl))
-      (runs-well m ps ok t pass l nl limit (fresh ps m (tableOf t)) (record { can = fresh-can ps m (tableOf t); regular = fresh-regular ps m (tableOf t) (accepted m t (passing m t pass)) }));
+      (runs-well m ps ok t pass l nl limit (fresh ps m (tableOf t))
+          (record { can = fresh-can ps m (tableOf t); regular = fresh-regular ps m (tableOf t) (accepted m t (passing m t pass)) }));
 }
 
 pub continued-ends : ContinuedEnds

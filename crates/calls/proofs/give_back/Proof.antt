@@ -1,4 +1,4 @@
--- The locals are handed over, the variable of the 45 gets the number, the loops come back, and the last word says that there is one caller less.
+-- The locals are put back, then the variable of the 45 gets the number; the loops come back, and the last word says that there is one caller less.
 -- Assumes nothing.
 use native.Mathlib.Omega.{arith}
 use borrow.Author.Needs.{needs}
@@ -12,22 +12,19 @@ home-at-requires-2 c κs =
     let start = c .before .before .before .before .before .before .before .before .before .before in
     omega (arith, back-there _ _ (start .pre .0) _ _ (start .pre .1), start .pre .0 .rows)
 
-hand-over-requires : tie.Need-hand-over-requires
-hand-over-requires c κs =
-    let start = c .before .before .before .before .before .before .before .before .before .before .before .before in
-    let back = back-there _ _ (start .pre .0) _ _ (start .pre .1) in
-    (start .pre .0 .decls, locals-fit _ _ (start .pre .0) _ (start .pre .1 .row) (c .before .before .home-at .ensures),
-    locals-fit _ _ (start .pre .0) _ back (c .before .home-at2 .ensures))
-
-element-write-ns : tie.Need-element-write-ns
-element-write-ns c =
-    let worded = c .before .before .before .before .before in
+put-back-requires : tie.Need-put-back-requires
+put-back-requires c κs =
+    let worded = c .before .before .before .before in
     let start = worded .before .before .before .before .before .before .before .before in
-    omega (arith, receives _ _ (start .pre .0) _ _ (start .pre .1), start .pre .0 .decls, worded .row-word .ensures)
+    let back = back-there _ _ (start .pre .0) _ _ (start .pre .1) in
+    ((start .pre .0 .decls, locals-fit _ _ (start .pre .0) _ (start .pre .1 .row) (c .before .before .home-at .ensures),
+        locals-fit _ _ (start .pre .0) _ back (c .before .home-at2 .ensures)),
+    omega (arith, receives _ _ (start .pre .0) _ _ (start .pre .1), start .pre .0 .decls, worded .row-word .ensures))
 
 add-next : tie.Need-add-next
 add-next c =
-    let start = c .before .before .before .before .before .before .before .before .before .before .before .before .before .before .before .before .before .before in
+    let worded = c .before .before .before .before .before .before .before .before .before .before in
+    let start = worded .before .before .before .before .before .before .before .before in
     omega (arith, back-there _ _ (start .pre .0) _ _ (start .pre .1), start .pre .0 .rows)
 
 returns : tie.Need-returns
@@ -37,8 +34,7 @@ returns c =
     let start = worded .before .before .before .before .before .before .before .before in
     let home = over .before .before .before .home-at .ensures in
     let target = over .before .before .home-at2 .ensures in
-    returned _ _ (start .pre .0) _ _ (start .pre .1) _ _ (over .hand-over .ensures .0) home target (over .hand-over .ensures .1)
-        (worded .row-word .ensures) (c .take-back .ensures)
+    returned _ _ (start .pre .0) _ _ (start .pre .1) _ _ home target (over .put-back .ensures) (worded .row-word .ensures) (c .take-back .ensures)
 
 pub give-back-spec : {M : Type 1} → statement M
 give-back-spec =
@@ -69,9 +65,7 @@ give-back-spec =
     (λ c. search needs)
     (λ c κs. search needs)
     home-at-requires-2
-    hand-over-requires
-    (λ c. search needs)
-    element-write-ns
+    put-back-requires
     (λ c κs. search needs)
     (λ c. search needs)
     add-next

@@ -6,9 +6,6 @@ use mathlib.Core.Path.{_≡_, refl, ap, _∙_}
 use mathlib.Core.Bool.{false}
 use mathlib.Core.List.{List}
 use lib.ListN.{length, length-replicate, length-set}
-use mir.Val.{Val}
-use denote.Laws.{Is}
-use denote.Struct.Declared.{row}
 use Rattle.model.specs.Step.{finished}
 use Rattle.model.proofs.Memory.{cleared-length}
 use Rattle.prepared.specs.Own.{ownTable}
@@ -18,16 +15,15 @@ use Rattle.machine.specs.declared.Worked.the-variants.{Moves}
 use Rattle.machine.specs.View.{ownState}
 use Rattle.machine.specs.CodeMoves.{stateAfter, Can, Sized}
 use Rattle.calls.specs.CallAndReturn.{Procedures}
-use Rattle.machine.proofs.Machine.{the-type as machine}
 use Rattle.runs.specs.declared.Ran.{Ran}
 use Rattle.runs.specs.CodeSteps.{kept}
-use Rattle.runs.proofs.ReadyLaws.{within}
+use Rattle.runs.proofs.ReadyLaws.{within, sized}
 use Rattle.runs.proofs.CallingLaws.{calls-fit, procedures-own, table-going, going-on-copy, done-on-copy}
 use Rattle.choices.specs.CodeSteps.{countOf, WriterWrites}
 use Rattle.choices.proofs.CopyLaws.{copy-plain}
 use Rattle.choices.proofs.WriteLaws.{Left, Handed, Recorded, writes-own, left-all, left-done, left-out, bounds, few-numbers, inside-list}
 use Rattle.choices.proofs.WriteLaws.{left-full, left-stop, left-again}
-use borrow.Author.Needs.{length-unmapped, needs}
+use borrow.Author.Needs.{needs}
 use Rattle.choices.proofs.steps.write_steps.Statement.{statement}
 use Rattle.choices.proofs.steps.write_steps.Tie as tie
 
@@ -88,19 +84,6 @@ writing c = c .before .before .before .before .before .before .before .before
 -- ---- what is known there
 abbrev own : Head → List ℕ
 own c = laid c .lay-out .last .1 .1 .0
-
--- the columns of a machine are as long as its type says
-sized : (m : Machine) {vs : List Val} → Is (row machine) m vs → Sized m
-sized m held = record {
-  numbers = length-unmapped ℕ (m .numbers) 32 (held .1 .1 .1 .0 .1 .0 .1);
-  bases = length-unmapped ℕ (m .bases) 32 (held .1 .1 .1 .1 .0 .1 .0 .1);
-  rows = length-unmapped ℕ (m .«loop_rows») 8 (held .1 .1 .1 .1 .1 .1 .0 .1 .0 .1);
-  starts = length-unmapped ℕ (m .starts) 8 (held .1 .1 .1 .1 .1 .1 .1 .0 .1 .0 .1);
-  ends = length-unmapped ℕ (m .ends) 8 (held .1 .1 .1 .1 .1 .1 .1 .1 .0 .1 .0 .1);
-  firsts = length-unmapped ℕ (m .firsts) 16 (held .1 .1 .1 .1 .1 .1 .1 .1 .1 .1 .0 .1 .0 .1);
-  lengths = length-unmapped ℕ (m .lengths) 16 (held .1 .1 .1 .1 .1 .1 .1 .1 .1 .1 .1 .0 .1 .0 .1);
-  shapes = length-unmapped ℕ (m .shapes) 16 (held .1 .1 .1 .1 .1 .1 .1 .1 .1 .1 .1 .1 .0 .1 .0 .1);
-}
 
 -- the writer goes on, by the loop's test
 going : (p : Inside) → let h = p .before .loop in finished (ownTable (own (p .before))) (ownState (own (p .before)) (h .stack) (h .m) (h .cells)) ≡ false

@@ -24,7 +24,8 @@ returns-2 c a b k count stack bs fs ls hs cells =
     let d = g .«open» - 1 in
     let e : g .«open» ≡ suc d = omega (arith, c .before .before .before .before .before .before .if1 .left) in
     let m = columns (g .here) (g .ns .now) bs (g .«open») (g .loop-rows .now) (g .starts .now) (g .ends .now) count fs ls hs in
-    repeat-ends (g .own .now) stack (g .list .now) m cells a b k (g .at) d e _ (c .before .before .next-start .ensures) (c .before .match .keys2) (c .lost .ensures)
+    repeat-ends (g .own .now) stack (g .list .now) m cells a b k (g .at) d e _ (c .before .before .next-start .ensures) (c .before .match .keys2)
+    (c .lost .ensures)
 
 loop-at-requires : tie.Need-loop-at-requires
 loop-at-requires c κs =

@@ -68,7 +68,8 @@ returns-2 c map stack ed calling =
         (g .hs .now) in
     step-of (g .own .now) stack m (g .cells .now) (g .list .now) (g .at) (s .pre .1)
     (w .before .before .before .row-word .ensures) (w .before .before .row-word2 .ensures) (w .before .row-word3 .ensures) (w .row-word4 .ensures)
-    33 (c .before .match .keys2) refl (c .assigned .ensures (g .row) (g .«open») (w .row-word4 .result) stack (g .loop-rows .now) (g .starts .now) (g .ends .now))
+    33 (c .before .match .keys2) refl
+    (c .assigned .ensures (g .row) (g .«open») (w .row-word4 .result) stack (g .loop-rows .now) (g .starts .now) (g .ends .now))
 
 returns-3 : tie.Need-returns-3
 unfolding rowKind
@@ -120,7 +121,8 @@ returns-6 c map stack ed calling =
         (g .hs .now) in
     step-of (g .own .now) stack m (g .cells .now) (g .list .now) (g .at) (s .pre .1)
     (w .before .before .before .row-word .ensures) (w .before .before .row-word2 .ensures) (w .before .row-word3 .ensures) (w .row-word4 .ensures)
-    37 (c .before .before .match .keys6) refl (works-by (lays-plain (g .own .now) stack m (g .cells .now) (g .list .now) (s .pre .0 .decls) (s .pre .0 .sized .numbers)
+    37 (c .before .before .match .keys6) refl
+    (works-by (lays-plain (g .own .now) stack m (g .cells .now) (g .list .now) (s .pre .0 .decls) (s .pre .0 .sized .numbers)
     (s .pre .0 .sized .bases) (s .pre .0 .sized .firsts) (s .pre .0 .sized .lengths) (s .pre .0 .sized .shapes)
     (w .before .before .row-word2 .result) (w .before .row-word3 .result) (w .row-word4 .result) (drop (g .at) (g .list .now)) (c .before .uint-at .result)
     (c .before .uint-at .ensures)) (c .laid .ensures))
@@ -161,7 +163,8 @@ returns-9 c map stack ed calling =
         (g .hs .now) in
     step-of (g .own .now) stack m (g .cells .now) (g .list .now) (g .at) (s .pre .1)
     (w .before .before .before .row-word .ensures) (w .before .before .row-word2 .ensures) (w .before .row-word3 .ensures) (w .row-word4 .ensures)
-    40 (c .before .match .keys9) refl (c .stored2 .ensures (g .row) (g .«open») (w .row-word4 .result) stack (g .loop-rows .now) (g .starts .now) (g .ends .now))
+    40 (c .before .match .keys9) refl
+    (c .stored2 .ensures (g .row) (g .«open») (w .row-word4 .result) stack (g .loop-rows .now) (g .starts .now) (g .ends .now))
 
 returns-10 : tie.Need-returns-10
 unfolding rowKind
@@ -173,7 +176,8 @@ returns-10 c map stack ed calling =
         (g .hs .now) in
     step-of (g .own .now) stack m (g .cells .now) (g .list .now) (g .at) (s .pre .1)
     (w .before .before .before .row-word .ensures) (w .before .before .row-word2 .ensures) (w .before .row-word3 .ensures) (w .row-word4 .ensures)
-    41 (c .before .before .match .keys10) refl (works-by (lays-reduced (g .own .now) stack m (g .cells .now) (g .list .now) (s .pre .0 .decls) (s .pre .0 .sized .numbers)
+    41 (c .before .before .match .keys10) refl
+    (works-by (lays-reduced (g .own .now) stack m (g .cells .now) (g .list .now) (s .pre .0 .decls) (s .pre .0 .sized .numbers)
     (s .pre .0 .sized .bases) (s .pre .0 .sized .firsts) (s .pre .0 .sized .lengths) (s .pre .0 .sized .shapes)
     (w .before .before .row-word2 .result) (w .before .row-word3 .result) (w .row-word4 .result) (drop (g .at) (g .list .now)) (c .before .uint-at2 .result)
     (c .before .uint-at2 .ensures)) (c .laid2 .ensures))
