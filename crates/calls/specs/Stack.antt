@@ -1,5 +1,5 @@
--- The callers, in a stack of 241 words lent beside the record: 30 words for each of eight, the one in main first, and in the last word how many
--- there are. What stands past those in use is no part of it (rule 7.13).
+-- The callers, in a stack of 241 words, the part of a record that is lent beside its machine: 30 words for each of eight, the one in main first,
+-- and in the last word how many there are. What stands past those in use is no part of it (rule 7.13).
 use Prim.Native.Nat.{ℕ, suc, _+_, _-_, _*_}
 use mathlib.Core.List.{List}
 use lib.ListN.{getD}

@@ -10,7 +10,7 @@ use lib.Dec.{ltb}
 use borrow.Author.Tests.{ltb-true}
 use Rattle.lists.specs.If.{if_then_else_}
 use Rattle.lists.proofs.FallingLaws.{value-is}
-use Rattle.table.specs.Rules.{depth, depthBy}
+use Rattle.line_checks.specs.Rules.{depth, depthBy}
 use Rattle.model.specs.Table.{Table, Ty, Node, nodeKind, nodeAt, nodeRoles, typeAt, rowAt, Row, rowKind, atEnd, markedUint}
 use Rattle.model.specs.Table.Ty.{bool, uint, pointer}
 use Rattle.model.specs.Table.Node.{variable, uintConstant, boolConstant, cell, plus, minus, less, atMost, equal, conditional, valid, classVariable}

@@ -47,7 +47,7 @@ use Rattle.recording.specs.CodeMoves.{ReachedMove}
 use Rattle.runs.specs.CodeSteps.{Ready, kept}
 use Rattle.runs.proofs.ReadyLaws.{state-same, step-same, finished-same}
 use Rattle.runs.proofs.CallingLaws.{table-going}
-use Rattle.choices.specs.CodeSteps.{countOf}
+use Rattle.writing.specs.CodeWriting.{countOf}
 
 -- it failed, and has a reason
 abbrev pub HasReason : Failure → Type 0

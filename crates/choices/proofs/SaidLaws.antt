@@ -11,7 +11,7 @@ use Rattle.runs.specs.CodeSteps.{Lends}
 use Rattle.table.specs.declared.Verdict.{Verdict}
 use Rattle.table.specs.declared.Verdict.the-variants.{Passes, Refused}
 use Rattle.table.specs.Checks.{tableCheck, andThen, sizeCheck}
-use Rattle.table.specs.Rules.{depth, mostDepth}
+use Rattle.line_checks.specs.Rules.{depth, mostDepth}
 use Rattle.table.proofs.Passing.{passing, both-pass, node-depth}
 use Rattle.model.specs.Table.{Table, tableOf}
 use Rattle.model.specs.Class.{pair}

@@ -22,7 +22,7 @@ use Rattle.model.specs.Step.End.{done, outOfSteps, listFull}
 use Rattle.model.specs.Step.Move.{to}
 use Rattle.model.specs.Step.Report.{ended, noEnd}
 use Rattle.model.specs.Writer.{heldNext, stepChoices, withNumbers, writer, writes}
-use Rattle.table.specs.Rules.{depth, mostDepth}
+use Rattle.line_checks.specs.Rules.{depth, mostDepth}
 use Rattle.prepared.specs.declared.Frame.{Frame}
 use Rattle.prepared.specs.View.{places, kindOf, tableFor}
 use Rattle.prepared.specs.Own.{Own, ownTable, placesOf}
@@ -50,7 +50,8 @@ use Rattle.runs.proofs.RunLaws.{going-on}
 use Rattle.runs.proofs.GoingLaws.{arrays-most}
 use Rattle.runs.proofs.ReadyLaws.{state-same, step-same, step-bounds}
 use Rattle.runs.proofs.CallingLaws.{table-going}
-use Rattle.choices.specs.CodeSteps.{Begins, countOf, heldWith, stoppedOf, WriterWrites}
+use Rattle.writing.specs.CodeWriting.{countOf, stoppedOf}
+use Rattle.choices.specs.CodeSteps.{Begins, heldWith, WriterWrites}
 use Rattle.choices.proofs.ArrayLaws.{arraysNext, step-arrays}
 use Rattle.choices.proofs.BoundLaws.{step-most}
 use Rattle.choices.proofs.HeldLaws.{held-next, held-length}

@@ -1,29 +1,22 @@
 -- The code's own words: what the loop of the choice writer is lent, and how it stops.
 use mathlib.Core.Path.{_≡_}
-use Prim.Native.Nat.{ℕ, suc, _<_, _≤_}
+use Prim.Native.Nat.{ℕ, _<_, _≤_}
 use mathlib.Core.List.{List, []}
 use lib.ListN.{length, drop, set}
 use lib.Dec.{ltb}
 use Rattle.lists.specs.If.{if_then_else_}
 use Rattle.model.specs.Table.{markedPointer, rowAt}
 use Rattle.prepared.specs.Own.{ownTable}
-use Rattle.table.specs.Rules.{depth, mostDepth}
+use Rattle.line_checks.specs.Rules.{depth, mostDepth}
 use Rattle.model.specs.Class.{pair}
 use Rattle.model.specs.Step.{Report}
 use Rattle.model.specs.Writer.{writer}
-use Rattle.machine.specs.declared.Machine.{Machine}
 use Rattle.machine.specs.declared.Record.{Record}
 use Rattle.prepared.specs.declared.Frame.{Frame}
 use Rattle.prepared.specs.View.{tableFor}
 use Rattle.machine.specs.View.{stateOf}
-use Rattle.runs.specs.CodeSteps.{Ready, ran}
+use Rattle.runs.specs.CodeSteps.{Ready}
 use mathlib.Core.Bool.{false}
-use Rattle.machine.specs.declared.Worked.{Worked}
-use Rattle.machine.specs.declared.Worked.the-variants.{Moves, Ends, Not}
-use Rattle.machine.specs.declared.End.{End}
-use Rattle.machine.specs.declared.End.the-variants as Code
-use Rattle.evaluators.specs.declared.answers.Failure.{Failure}
-use Rattle.evaluators.specs.declared.answers.Failure.the-variants.{Fails, BadChoice, NoChoice, Stuck}
 use Rattle.runs.specs.declared.Ran.{Ran}
 use Rattle.choices.specs.Ends.{reportOf}
 
@@ -40,26 +33,6 @@ flagOf own row = if markedPointer (ownTable own) (rowAt (ownTable own) row .a) t
 
 unfoldable pub heldWith : List ℕ → ℕ → ℕ → List ℕ → List ℕ
 heldWith own count row held = if ltb count 16 then set held count (flagOf own row) else held
-
--- how many numbers a row has
-abbrev pub countOf : Worked → ℕ
-countOf (Moves x n) = n
-countOf (Ends e n) = n
-countOf (Not why n) = n
-
--- The end of a row that failed (rule 2.37). A plain step takes no choice and is never stuck, so what stands for those is never handed back.
-abbrev pub failedEnd : Failure → End
-failedEnd (Fails reason) = Code.Fail reason
-failedEnd BadChoice = Code.OutOfSteps
-failedEnd NoChoice = Code.OutOfSteps
-failedEnd Stuck = Code.OutOfSteps
-
--- A row that does not go on, after n steps, with the numbers up to `at` written: it counts, and so do they (rule 2.29). None that goes on is
--- asked of, so what stands for it is never handed back.
-abbrev pub stoppedOf : Worked → ℕ → ℕ → Machine → List ℕ → Ran
-stoppedOf (Moves x next) n at m stack = ran Code.OutOfSteps (suc n) at m stack
-stoppedOf (Ends e next) n at m stack = ran e (suc n) at m stack
-stoppedOf (Not why next) n at m stack = ran (failedEnd why) (suc n) at m stack
 
 -- what is handed back is a report; its numbers are in the list, which is otherwise as it was lent (rule 4.10)
 pub record Writes (t : List ℕ) (f : Frame) (r : Ran) (cells list lent : List ℕ) (said : Report) : Type 0 where

@@ -1,7 +1,7 @@
--- Procedures (rules 1.19 to 1.22, 2.39 to 2.44, 4.12, 6.24, 7.15 to 7.18): what 17 refuses a row for, that no state of a run holds a nonzero
--- local of a procedure that is not at work, that a run is done at main's end, that 15 covers the callers, and that runs which match hand back
--- equal callers; said of the definitions of which those of the public promises are made. That a run with calls is matched by a reduced one is
--- Demand3, one claim still. Proved in proofs/ProceduresProof.
+-- Procedures (rules 1.19 to 1.22, 2.39 to 2.44, 4.12, 6.24, 7.15 to 7.18): which uses of locals and which calls 17 refuses, that no state of a run
+-- holds a nonzero local of a procedure that is not at work, that a run is done at main's end, that 15 covers the callers, and that runs which match
+-- hand back equal callers; said of the definitions of which those of the public promises are made. That a run with calls is matched by a reduced one
+-- is Demand3, one claim still. Proved in proofs/ProceduresProof.
 use mathlib.Core.Path.{_≡_}
 use Prim.Native.Nat.{ℕ, _<_, _≤_}
 use mathlib.Core.Bool.{true, false}
@@ -39,8 +39,9 @@ DoneWhereMainEnds =
     → (n : ℕ) (r : State) → StateAfter ps (tableOf t) n s choices r
     → (finished (tableOf t) r ≡ true → AtMainEnd (tableOf t) r) × (AtMainEnd (tableOf t) r → finished (tableOf t) r ≡ true)
 
--- what 15 asks of the callers and their locals: at most eight callers, each kept at a 45 that calls what the next one stands in, the first in main,
--- with the loops around that 45 and none whose start is above its end, and 0 in the locals of what is not at work (rules 7.15 to 7.18)
+-- what 15 asks of the callers and of the locals: at most eight callers, the last kept at a 45 that calls what is at work, each other one at a 45 that
+-- calls what the next stands in, the first in main, as the run does where there is none; each with the loops around its 45, none of which starts above
+-- its end; and 0 in each local that is not of what is at work (rules 7.15 to 7.18)
 pub record StackRight (t : Table) (s : State) : Type 0 where
   pub few : length (s .callers) ≤ mostCallers
   pub calls : Stacked t (home t (s .here .row)) (s .callers)

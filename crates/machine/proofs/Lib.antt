@@ -1,9 +1,3 @@
--- The theory of the machines: `PutLaws`, what a row comes to by its operand, and rows 33, 35 and 36; `LayLaws`, rows 37 and 41; `WriteLaws`, rows
--- 34 and 40; `LoopLaws`, rows 38, 42 and 39; `CallingLaws`, rows 44 and 45; `StepLaws`, the row where a record stands; `FreshLaws`, a fresh record.
-pub mod PutLaws
-pub mod LayLaws
-pub mod WriteLaws
-pub mod LoopLaws
-pub mod CallingLaws
-pub mod StepLaws
+-- The theory of the machines: `StateLaws`, the state after a step; `FreshLaws`, a fresh record.
+pub mod StateLaws
 pub mod FreshLaws

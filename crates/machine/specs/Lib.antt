@@ -1,6 +1,4 @@
--- The machines: `View`, the record as the model's state; `CodeMoves`, what a row comes to and the step it makes; `CodeRows`, what the parts of
--- the rows say; `CodeFresh`, a fresh record.
+-- The machines: `View`, the record as the model's state; `CodeMoves`, what a row comes to and the step it makes; `CodeFresh`, a fresh record.
 pub mod View
 pub mod CodeMoves
-pub mod CodeRows
 pub mod CodeFresh

@@ -1,4 +1,4 @@
--- The record, the stack and the cells of the code, seen as the model's state.
+-- The record (a machine and a stack) and the cells of the code, seen as the model's state.
 use Prim.Native.Nat.{ℕ}
 use mathlib.Core.List.{List}
 use Rattle.model.specs.State.{Value, Caller, State, position}

@@ -1,13 +1,6 @@
-// The machines: the record by value, what a row comes to, worked out from the record's columns, and the step that makes the change.
-pub mod arrays; // arrays.rt: rows 37 and 41
-pub mod calling; // calling.rt: rows 44 and 45
-pub mod conditions; // conditions.rt: rows 35 and 36
+// The machines: the record by value, what a row comes to, and the step that makes the change. What a row comes to is worked out by the crates above.
 mod fresh; // fresh.rt: a fresh record and a blank one
-pub mod loops; // loops.rt: rows 38, 42 and 39
-pub mod moves; // moves.rt: the row where a record stands
 pub mod steps; // steps.rt: the steps
-pub mod values; // values.rt: row 33
-pub mod writes; // writes.rt: rows 34 and 40
 
 use calls::CALLERS;
 use calls::LOCALS;

@@ -41,12 +41,12 @@ use Rattle.machine.specs.declared.Worked.the-variants.{Moves, Not}
 use Rattle.calls.specs.Stack.{loopsOf}
 use Rattle.machine.specs.View.{ownState}
 use Rattle.machine.specs.CodeMoves.{outer, LoopFits, RepeatFits, Works}
-use Rattle.machine.specs.CodeRows.{lostOf, fitsIn, sizeFor, cellGets, placeGets, targetGets, iterForm, iterNumber, wayOut, leaveOf, entryOf}
-use Rattle.machine.proofs.PutLaws.{lends, works-same}
-use Rattle.machine.proofs.WriteLaws.{works-by, target-writes, store-first, store-second, store-both}
+use Rattle.row_kinds.specs.CodeRows.{lostOf, fitsIn, sizeFor, cellGets, placeGets, targetGets, iterForm, iterNumber, wayOut, leaveOf, entryOf}
+use Rattle.row_kinds.proofs.PutLaws.{lends, works-same}
+use Rattle.row_kinds.proofs.WriteLaws.{works-by, target-writes, store-first, store-second, store-both}
 use Rattle.calls.proofs.StackLaws.{loops-split}
-use Rattle.machine.proofs.LoopLaws.{entry-loops, open-first, open-second, open-both, kind-read, kind-38, row-there}
-use Rattle.machine.proofs.LoopLaws.{repeat-none, repeat-ends, repeat-loop, repeat-other}
+use Rattle.row_kinds.proofs.LoopLaws.{entry-loops, open-first, open-second, open-both, kind-read, kind-38, row-there}
+use Rattle.row_kinds.proofs.LoopLaws.{repeat-none, repeat-ends, repeat-loop, repeat-other}
 use Rattle.recording.specs.CodePushes.{Pushed, pushed, push, pushAll}
 use Rattle.recording.specs.CodeRecords.{Plain, heldOf, pairOf, ReachedBy, Records, Recorded}
 use Rattle.recording.specs.CodeMoves.{ReachedMove, RowRecords}

@@ -26,14 +26,15 @@ use Rattle.machine.specs.declared.Move.the-variants.{Goes, Returns}
 use Rattle.machine.specs.declared.Worked.{Worked}
 use Rattle.machine.specs.declared.Worked.the-variants.{Moves, Not}
 use Rattle.machine.specs.View.{ownState}
-use Rattle.machine.specs.CodeRows.{onBool, onUint, onPointer, fitsIn, putOf, putBool, putUint, putPointer, testedOf, lacksRoom, usedIn, sizeFor, layOf, laidOf}
-use Rattle.machine.specs.CodeRows.{calledOf, returnedOf}
+use Rattle.row_kinds.specs.CodeRows.{onBool, onUint, onPointer, fitsIn, putOf, putBool, putUint, putPointer, testedOf, lacksRoom, usedIn, sizeFor}
+use Rattle.row_kinds.specs.CodeRows.{layOf, laidOf}
+use Rattle.row_kinds.specs.CodeRows.{calledOf, returnedOf}
 use Rattle.machine.specs.CodeMoves.{BoolsFit, Sized, Within, CallsFit}
-use Rattle.machine.proofs.PutLaws.{lends, puts-bool, puts-uint, puts-pointer, asserts, assumes}
-use Rattle.machine.proofs.LayLaws.{lays-plain}
-use Rattle.machine.proofs.LoopLaws.{kind-read}
-use Rattle.machine.proofs.StepLaws.{ends-by, step-of, step-none, step-ends, step-returns, step-calls, step-past}
-use Rattle.machine.proofs.WriteLaws.{works-goes}
+use Rattle.row_kinds.proofs.PutLaws.{lends, puts-bool, puts-uint, puts-pointer, asserts, assumes}
+use Rattle.row_kinds.proofs.LayLaws.{lays-plain}
+use Rattle.row_kinds.proofs.LoopLaws.{kind-read}
+use Rattle.row_moves.proofs.StepLaws.{ends-by, step-of, step-none, step-ends, step-returns, step-calls, step-past}
+use Rattle.row_kinds.proofs.WriteLaws.{works-goes}
 use Rattle.recording.specs.CodePushes.{Pushed, pushed, pushAll}
 use Rattle.recording.specs.CodeRecords.{Plain, heldOf, pairOf, ReachedBy, Reached, Recorded, operandNumbers}
 use Rattle.recording.specs.CodeMoves.{ReachedMove, RowRecords, StepRecords}

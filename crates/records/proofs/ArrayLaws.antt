@@ -18,7 +18,7 @@ use Rattle.prepared.specs.View.{places, kindOf, arrayIn, arraysOf}
 use Rattle.evaluators.proofs.ViewLaws.{count-arrays}
 use Rattle.machine.specs.declared.Machine.{Machine}
 use Rattle.machine.specs.View.{stateBy}
-use Rattle.machine.specs.CodeRows.{sizeAt}
+use Rattle.row_kinds.specs.CodeRows.{sizeAt}
 use Rattle.records.specs.Record.{inSequence, kindsFit, arraysFit}
 use Rattle.records.specs.CodeRecord.{arrayFits}
 

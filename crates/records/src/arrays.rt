@@ -6,7 +6,7 @@ ghost use mathlib.Core.Path.{_≡_};
 ghost use mathlib.Core.List.{List};
 ghost use Rattle.model.specs.State.{Value, Caller};
 ghost use Rattle.prepared.specs.View.{kindOf, places};
-ghost use Rattle.machine.specs.CodeRows.{sizeFor};
+ghost use Rattle.row_kinds.specs.CodeRows.{sizeFor};
 ghost use Rattle.machine.specs.View.{stateBy};
 ghost use Rattle.records.specs.Record.{arraysFit};
 ghost use Rattle.records.specs.CodeRecord.{arrayFits};

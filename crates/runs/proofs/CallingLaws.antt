@@ -31,7 +31,7 @@ use Rattle.calls.specs.CallAndReturn.{LocalsWithin, Procedures, CanReturn, last
 use Rattle.machine.specs.declared.Machine.{Machine}
 use Rattle.machine.specs.View.{stateOf, ownState}
 use Rattle.machine.specs.CodeMoves.{CallsFit}
-use Rattle.machine.proofs.CallingLaws.{depth-length}
+use Rattle.row_kinds.proofs.CallingLaws.{depth-length}
 use Rattle.records.specs.RecordPromises.{CanBe}
 use Rattle.records.proofs.ProcedureLaws.{LocalsRight, few-procedures, locals-right}
 use Rattle.runs.specs.CodeSteps.{Ready, kept}

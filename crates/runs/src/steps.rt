@@ -7,7 +7,7 @@ use machine::End;
 use machine::Machine;
 use machine::Record;
 use machine::Worked;
-use machine::moves::move_of;
+use row_moves::move_of;
 use prepared::Frame;
 use prepared::own::lay_out;
 ghost use mathlib.Core.Path.{_≡_};

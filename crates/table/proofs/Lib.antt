@@ -4,9 +4,6 @@ pub mod Passing
 pub mod ReducedPasses
 pub mod PromiseProofs
 pub mod IteratorProofs
-pub mod CodeLaws
-pub mod TypeLaws
-pub mod DepthLaws
 pub mod LoopLaws
 pub mod IteratorLaws
 pub mod CheckLaws

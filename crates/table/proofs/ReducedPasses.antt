@@ -27,7 +27,8 @@ use Rattle.model.proofs.ReducedAccepted.{R, kind-known, nested-same, node-suit,
 use Rattle.model.proofs.ReducedAccepted.{open-same, procedures-same, there-same, typed-same}
 use Rattle.kinds.specs.Kinds.{rolesOf, sortNumber, kindAt, ofNodeOrRow}
 use Rattle.procedures.specs.Misplaced.{breaks17}
-use Rattle.table.specs.Rules.{breaks10, breaks11, breaks12, breaks16, breaks5, breaks6, breaks7, breaks8, breaks9, depth, depthBy, mostDepth}
+use Rattle.line_checks.specs.Rules.{breaks10, breaks12, breaks5, breaks6, breaks7, breaks8, breaks9, depth, depthBy, mostDepth}
+use Rattle.table.specs.Rules.{breaks11, breaks16}
 use Rattle.table.specs.Rules.{any, opensLoop, sharesIterator}
 use Rattle.table.specs.Checks.{breaks}
 use Rattle.table.proofs.Sizes.{or-right}

@@ -20,7 +20,7 @@ use Rattle.model.specs.Table.{isDeclaration, isNode, isRow, lineAt, lineCount, 
 use Rattle.model.specs.State.{MachineKind}
 use Rattle.model.specs.Accepted.{known}
 use Rattle.kinds.specs.Kinds.{sortNumber}
-use Rattle.table.specs.Rules.{breaks5, breaks6, mostDeclarations, mostNodes, mostRows}
+use Rattle.line_checks.specs.Rules.{breaks5, breaks6, mostDeclarations, mostNodes, mostRows}
 use Rattle.table.specs.Checks.{breaks}
 
 -- ---- Bools

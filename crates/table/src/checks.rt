@@ -1,16 +1,16 @@
 // The checks in their order, each over all lines: the first line that breaks it refuses.
 use crate::Verdict;
-use crate::depths::first_deep;
 use crate::iterators::first_shared;
-use crate::lines::breaks_5;
-use crate::lines::breaks_6;
-use crate::lines::breaks_7;
-use crate::lines::breaks_8;
 use crate::loops::first_unnested;
-use crate::marks::breaks_12;
-use crate::types::breaks_9;
-use crate::types::fill_types;
 use kinds::Counts;
+use line_checks::depths::first_deep;
+use line_checks::marks::breaks_12;
+use line_checks::operands::breaks_5;
+use line_checks::operands::breaks_6;
+use line_checks::operands::breaks_7;
+use line_checks::operands::breaks_8;
+use line_checks::types::breaks_9;
+use line_checks::types::fill_types;
 use lists::Found;
 use procedures::first_misplaced;
 ghost use mathlib.Core.Path.{_≡_};
@@ -20,7 +20,8 @@ ghost use lib.ListN.{length};
 ghost use Rattle.kinds.specs.Kinds.{machineOf};
 ghost use Rattle.kinds.specs.Code.{tableBy, InSorts, There};
 ghost use Rattle.table.specs.Checks.{breaks, firstRefusal};
-ghost use Rattle.table.specs.Code.{countsOf, firstOf, Types};
+ghost use Rattle.line_checks.specs.Code.{Types};
+ghost use Rattle.table.specs.Code.{countsOf, firstOf};
 
 // Whether a line breaks one of 5 to 8.
 fn line_breaks(check: u32, words: &[u32], counts: Counts, reduced: bool, line: usize) -> bool

@@ -8,10 +8,6 @@ ghost use Rattle.table.specs.Checks.{tableCheck};
 
 pub mod sorts; // sorts.rt: how many lines each sort has
 pub mod loops; // loops.rt: the matching end row, check 11
-mod lines; // lines.rt: checks 5 to 8
-mod types; // types.rt: types of nodes, check 9
-mod depths; // depths.rt: depths of nodes, check 10
-mod marks; // marks.rt: marks of variables, check 12
 mod iterators; // iterators.rt: iterators of open loops, check 16
 mod checks; // checks.rt: the checks in their order
 

@@ -19,7 +19,8 @@ use Rattle.runs.specs.declared.Ran.{Ran}
 use Rattle.runs.specs.CodeSteps.{kept}
 use Rattle.runs.proofs.ReadyLaws.{within, sized}
 use Rattle.runs.proofs.CallingLaws.{calls-fit, procedures-own, table-going, going-on-copy, done-on-copy}
-use Rattle.choices.specs.CodeSteps.{countOf, WriterWrites}
+use Rattle.writing.specs.CodeWriting.{countOf}
+use Rattle.choices.specs.CodeSteps.{WriterWrites}
 use Rattle.choices.proofs.CopyLaws.{copy-plain}
 use Rattle.choices.proofs.WriteLaws.{Left, Handed, Recorded, writes-own, left-all, left-done, left-out, bounds, few-numbers, inside-list}
 use Rattle.choices.proofs.WriteLaws.{left-full, left-stop, left-again}

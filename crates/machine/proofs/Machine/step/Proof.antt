@@ -2,7 +2,7 @@
 -- Assumes nothing.
 use mathlib.Core.Path.{refl}
 use Rattle.machine.specs.CodeMoves.{stateAfter}
-use Rattle.machine.proofs.CallingLaws.{called-state, returned-state}
+use Rattle.machine.proofs.StateLaws.{called-state, returned-state}
 use borrow.Author.Needs.{needs}
 use Rattle.machine.proofs.Machine.step.Statement.{statement}
 use Rattle.machine.proofs.Machine.step.Tie as tie

@@ -3,7 +3,7 @@
 use native.Mathlib.Omega.{arith}
 use Prim.Native.Nat.{_+_, _-_}
 use mathlib.Core.Path.{_≡_}
-use Rattle.machine.proofs.LayLaws.{zero-part}
+use Rattle.machine.proofs.StateLaws.{zero-part}
 use borrow.Author.Needs.{needs}
 use Rattle.machine.proofs.steps.zero.Statement.{statement}
 use Rattle.machine.proofs.steps.zero.Tie as tie

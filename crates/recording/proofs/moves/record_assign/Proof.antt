@@ -1,7 +1,7 @@
 -- By the type of the variable.
 -- Assumes nothing.
 use mathlib.Core.Path.{sym, _∙_}
-use Rattle.machine.proofs.PutLaws.{type-bool, type-uint, type-pointer}
+use Rattle.row_kinds.proofs.PutLaws.{type-bool, type-uint, type-pointer}
 use Rattle.recording.proofs.RowLaws.{records-bool, records-uint, records-pointer}
 use borrow.Author.Needs.{needs}
 use Rattle.recording.proofs.moves.record_assign.Statement.{statement}

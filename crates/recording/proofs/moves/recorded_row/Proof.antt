@@ -11,8 +11,8 @@ use Rattle.prepared.specs.Own.{rowsOf, ownTable}
 use Rattle.machine.specs.declared.Machine.{Machine}
 use Rattle.machine.specs.declared.Worked.{Worked}
 use Rattle.machine.specs.CodeMoves.{columns, Within}
-use Rattle.machine.proofs.LoopLaws.{kind-38}
-use Rattle.machine.proofs.StepLaws.{step-opens, step-closes}
+use Rattle.row_kinds.proofs.LoopLaws.{kind-38}
+use Rattle.row_moves.proofs.StepLaws.{step-opens, step-closes}
 use Rattle.recording.specs.CodeMoves.{RowRecords, StepRecords}
 use Rattle.recording.proofs.RowLaws.{records-step, records-skip, records-none, records-assert, records-assume, records-array}
 use Rattle.recording.proofs.RowLaws.{records-ends, records-returns, records-calls}

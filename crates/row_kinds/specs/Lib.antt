@@ -1,0 +1,2 @@
+-- The rows: `CodeRows`, what the parts of the rows say.
+pub mod CodeRows

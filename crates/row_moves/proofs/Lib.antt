@@ -1,0 +1,2 @@
+-- The theory of a row where a record stands: `StepLaws`.
+pub mod StepLaws
