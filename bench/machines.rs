@@ -440,14 +440,13 @@ impl Machine<'_> {
         let p = self.pointer(p)?;
         let v = self.uint(v)?;
         let array = self.array(p).ok_or(End::Fail(Reason::WithoutArray))?;
-        let place = if array.reduced { self.choice_in(self.pair.class(p.place))? } else { p.place };
-        if place >= array.length {
+        if p.place >= array.length {
             return Err(End::Fail(Reason::PastLength));
         }
         if !array.reduced {
-            self.cells[array.first + place as usize] = v;
-        } else if self.pair.tracks(place) {
-            self.cells[array.first + self.pair.class(place) as usize] = v;
+            self.cells[array.first + p.place as usize] = v;
+        } else if self.pair.tracks(p.place) {
+            self.cells[array.first + self.pair.class(p.place) as usize] = v;
         }
         Ok(())
     }

@@ -143,9 +143,6 @@ impl Writer<'_> {
         let p = self.pointer(p)?;
         let v = self.uint(v)?;
         let array = self.array(p).ok_or(Stop::Ended)?;
-        if array.reduced {
-            self.written(p.place)?;
-        }
         if p.place >= array.length {
             return Err(Stop::Ended);
         }

@@ -91,19 +91,35 @@ def why_it_failed():
         (4, [MP, *large, variable(0), (20, 2, 1, 0), (37, 0, 1, 0), (34, 3, 1, 0)], 1, 2),
         (5, [U, large[0], (38, 0, 0, 0), (39, 0, 0, 0)], 1, 2),
     ):
-        ended = "fail reason %d row %d steps %d" % (reason, row, steps)
-        choices = int(lines[0] == MP)
-        yield struct.pack("<3I", 1, 3, 9) + write(lines), ["plain " + ended, "pair %s choices %d" % (ended, choices)]
+        yield struct.pack("<3I", 1, 3, 9) + write(lines), both_lines("fail reason %d row %d steps %d" % (reason, row, steps))
 
 
 def neighbours():
-    """T with circuits next to each other, and with places that are no pair. Each of its five rounds takes five choices, and one more at a place that is not
+    """T with circuits next to each other, and with places that are no pair. Each of its five rounds takes four choices, and one more at a place that is not
     tracked; two are taken on entering the loop."""
     for c1, c2, tracked in (1, 2, 2), (0, 1, 2), (3, 4, 2), (4, 5, 1), (5, 6, 0), (BIG - 1, BIG, 0):
-        out = ["plain done row 5 steps 17", "pair done row 5 steps 17 choices %d" % (2 + 5 * 5 + 5 - tracked)]
+        out = ["plain done row 5 steps 17", "pair done row 5 steps 17 choices %d" % (2 + 5 * 4 + 5 - tracked)]
         yield struct.pack("<3I", c1, c2, 100) + write(T), out
     for c1, c2 in (1, 1), (2, 1), (0, 0), (BIG, BIG):
         yield struct.pack("<3I", c1, c2, 100) + write(T), ["refused 13 line 0"]
+
+
+def false_alarms():
+    """T with 1 and 3; then writes to each place of five, of a marked array: the last circuit's goes on, and one past the length fails, for no choice."""
+    yield struct.pack("<3I", 1, 3, 100) + write(T), both_lines("done row 5 steps 17", 25)
+    for place in range(7):
+        lines = [MP, constant(5), constant(place), variable(0), (20, 2, 1, 0), (37, 0, 0, 0), (34, 3, 0, 0)]
+        ended = "done row 2 steps 2" if place < 5 else "fail reason 4 row 1 steps 2"
+        for c1, c2 in (1, 3), (0, 1), (3, 4), (5, 6):
+            yield struct.pack("<3I", c1, c2, 9) + write(lines), both_lines(ended)
+    # a walk that goes one circuit too far: two choices on entering and at each end of loop, two at each write for its two readings of the iterator
+    lines = [MU, MP, constant(0), constant(5), variable(0), variable(1), (20, 3, 2, 0), (37, 1, 1, 0), (38, 0, 0, 1), (34, 4, 2, 0), (39, 0, 0, 0)]
+    yield struct.pack("<3I", 1, 3, 99) + write(lines), both_lines("fail reason 4 row 2 steps 13", 2 + 5 * 4 + 2)
+    # a write needs no room: after 8,192 numbers it is made, dropped or fails. Node 11 takes 2,048 choices; places 0, 1 and 5 of 5
+    nodes = [variable(0)] + [(20, k, k, 0) for k in range(11)] + [constant(5), constant(1), variable(2), (20, 14, 13, 0), (20, 14, 12, 0)]
+    for pointer, ended in (14, "done row 6 steps 6"), (15, "done row 6 steps 6"), (16, "fail reason 4 row 5 steps 6"):
+        lines = [MU, U, MP, *nodes, (37, 2, 12, 0), *[(33, 1, 11, 0)] * 4, (34, pointer, 12, 0)]
+        yield struct.pack("<3I", 1, 3, 99) + write(lines), both_lines(ended, 8192)
 
 
 def one_loop_at_a_time():
@@ -203,7 +219,7 @@ def main():
     assert expected == "".join(line.split(" ", 2)[2].replace(" | ", "\n") + "\n" for line in lines)
 
     more = 0
-    for given, ended in [*full_lists(), *cells_of_each(), *why_it_failed(), *neighbours(), *one_loop_at_a_time(), *procedures()]:
+    for given, ended in [*full_lists(), *cells_of_each(), *why_it_failed(), *neighbours(), *false_alarms(), *one_loop_at_a_time(), *procedures()]:
         out = pairrun(given)
         assert out == ended, (out, ended)
         data += struct.pack("<I", len(given)) + given

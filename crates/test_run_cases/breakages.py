@@ -190,7 +190,7 @@ broken(
     kinds={34, 40},
 )
 broken(
-    "3.18",
+    "3.17",
     "a write at the true length is let through, array reduced",
     (WRITE_PAST, WRITE_PAST.replace("length:", "length + reduced:")),
     kinds={40},
@@ -201,7 +201,7 @@ broken(
     (WRITE_PAST, WRITE_PAST.replace("length:", "length - (not reduced):")),
     kinds={34, 40},
 )
-broken("3.18", "a write at the last place fails, array reduced", (WRITE_PAST, WRITE_PAST.replace("length:", "length - reduced:")), kinds={40})
+broken("3.17", "a write at the last place fails, array reduced", (WRITE_PAST, WRITE_PAST.replace("length:", "length - reduced:")), kinds={40})
 broken("2.19", "a write past the length is dropped", (WRITE_PAST, WRITE_PAST.replace("raise failed(PAST)", "return")), kinds={34, 40})
 ALL_THE_SAME = (
     "        if place >= length:\n"
@@ -529,7 +529,7 @@ for end in ("assert", "assume", "fail", "room", "deep"):
         "2.29",
         "the choices of a step that ends by %s do not count" % end,
         (ENDED, uncounted + ENDED),
-        kinds={27, 28, 40, 42},
+        kinds={27, 28, 42},
     )
     on = "                state.row += e.args[0].startswith('%s')\n" % end
     broken("2.30", "the row moves on at an end by %s" % end, (ENDED, on + ENDED))
@@ -546,19 +546,19 @@ for end in ("badchoice", "nochoice"):
         "2.29",
         "the step of %s counts" % end,
         (NOT_TAKEN, NOT_TAKEN.replace("steps,", "steps + (e.args[0] == '%s')," % end)),
-        kinds={27, 28, 40, 42},
+        kinds={27, 28, 42},
     )
     broken(
         "2.29",
         "the choices of %s count" % end,
         (TAKEN_BACK, TAKEN_BACK.replace("= used", "= self.used if e.args[0] == '%s' else used" % end)),
-        kinds={27, 28, 40, 42},
+        kinds={27, 28, 42},
     )
     broken(
         "2.29",
         "the row moves on at %s" % end,
         (NOT_TAKEN, "                    state.row += e.args[0] == '%s'\n" % end + NOT_TAKEN),
-        kinds={27, 28, 40, 42},
+        kinds={27, 28, 42},
     )
 broken(
     "2.34",
@@ -929,13 +929,10 @@ broken(
     kinds={28},
     stops=True,
 )
-PLACE_OF = "        place = self.in_class(pointer[1]) if reduced else pointer[1]\n"
-broken(
-    "3.19",
-    "40 of a plain array takes a choice",
-    (PLACE_OF, PLACE_OF.replace("if reduced", "if reduced or self.pair is not None")),
-    kinds={40},
-)
+PLACE_OF = "        place = pointer[1]\n"
+CHOSEN = "        place = self.in_class(pointer[1]) if %s else pointer[1]\n"
+TAKEN_FOR_IT = "        if %s:\n            self.in_class(pointer[1])\n" + PLACE_OF
+broken("3.19", "40 of a plain array takes a choice", (PLACE_OF, CHOSEN % "not reduced and self.pair is not None"), kinds={40})
 broken(
     "3.19",
     "40 of a plain array drops the write where the place is not tracked",
@@ -954,20 +951,32 @@ NO_ARRAY = WRITTEN.replace(
     "            if self.pair is not None:\n                self.in_class(pointer[1])\n            raise",
 )
 broken("3.17", "40 with no array takes a choice before it fails", (WRITTEN, NO_ARRAY), kinds={40})
-broken("3.17", "40 takes any choice", (PLACE_OF, PLACE_OF.replace("self.in_class(pointer[1])", "self.choice(pointer[1])")), kinds={40})
+broken("3.17", "40 goes by a choice in the class of its place", (PLACE_OF, CHOSEN % "reduced"), kinds={40})
+broken("3.17", "40 goes by such a choice where its place is not tracked", (PLACE_OF, CHOSEN % "reduced and pointer[1] not in self.pair"), kinds={40})
+for what, test in (
+    ("", "reduced"),
+    (" at a tracked place", "reduced and pointer[1] in self.pair"),
+    (" at a place that is not tracked", "reduced and pointer[1] not in self.pair"),
+    (" past the length", "reduced and pointer[1] >= length"),
+    (" below the length", "reduced and pointer[1] < length"),
+):
+    broken("3.17", "40%s takes a choice, and goes by its place" % what, (PLACE_OF, TAKEN_FOR_IT % test), kinds={40})
+BY_CLASS = "        if (class_of(place, self.pair) >= class_of(length, self.pair) if reduced else place >= length):\n            raise failed(PAST)\n"
+broken("3.17", "40 fails by the class of its place", (WRITE_PAST, BY_CLASS), kinds={40})
+LAST_CLASS = "        if place >= length or reduced and class_of(place, self.pair) == 4:\n            raise failed(PAST)\n"
+broken("3.17", "40 above both tracked places fails", (WRITE_PAST, LAST_CLASS), kinds={40})
 broken(
     "3.17",
-    "40 at a tracked place takes no choice",
-    (PLACE_OF, PLACE_OF.replace("if reduced", "if reduced and pointer[1] not in self.pair")),
+    "40 fails at a place that is not tracked",
+    (WRITE_PAST, WRITE_PAST.replace("length:", "length or reduced and not self.writer and place not in self.pair:")),
     kinds={40},
 )
 broken(
     "3.17",
-    "40 past the length takes no choice",
-    (PLACE_OF, PLACE_OF.replace("if reduced", "if reduced and pointer[1] < length")),
+    "40 past the length fails at a tracked place alone",
+    (WRITE_PAST, WRITE_PAST.replace("length:", "length and (not reduced or self.writer or place in self.pair):")),
     kinds={40},
 )
-broken("3.18", "40 fails by its place, not by its choice", (WRITE_PAST, WRITE_PAST.replace("place >=", "pointer[1] >=")), kinds={40}, stops=True)
 broken(
     "3.18",
     "40 elsewhere writes the cell of its class",
@@ -981,19 +990,6 @@ broken(
     "3.10",
     "40 at a tracked place writes the cell numbered by the place",
     (KEPT_CELL, "            self.cells[first + min(place, 4)] = v\n"),
-    kinds={40},
-)
-EARLY = (
-    "            pointer = self.value(state, a)\n"
-    "            if pointer[0] and self.array(state, pointer)[2]:\n"
-    "                pointer = (pointer[0], self.in_class(pointer[1]))\n"
-)
-EARLY += "            self.write(state, pointer, self.value(state, b))"
-broken(
-    "3.17",
-    "40 takes its choice before its value is worked out",
-    (STORED, EARLY),
-    (PLACE_OF, "        place = pointer[1]\n"),
     kinds={40},
 )
 PAIR_TAKEN = "            start = self.in_class(start)\n            end = self.in_class(end)\n"
@@ -1073,16 +1069,16 @@ EXACT = (
 )
 broken(
     "3.12",
-    "40 and 42 take no choice but the true number",
+    "42 takes no choice but the true number",
     ("        return self.choice(true, class_of(true, self.pair))\n", EXACT),
-    kinds={40, 42},
+    kinds={42},
 )
 TRACKED_EXACT = EXACT.replace("v != true", "v != true and true not in self.pair and v == 0")
 broken(
     "3.12",
     "0 is not allowed for another number below c1",
     ("        return self.choice(true, class_of(true, self.pair))\n", TRACKED_EXACT),
-    kinds={40, 42},
+    kinds={42},
 )
 AT_ENTRY = "        if kind == 42 and state.row - 1 == row:\n            start = self.in_class(start)\n"
 broken(
@@ -1205,38 +1201,38 @@ broken(
     "3.12",
     "a choice that is not there ends as badchoice",
     (READER, READER.replace("nochoice", "badchoice")),
-    kinds={27, 28, 40, 42},
+    kinds={27, 28, 42},
 )
 broken(
     "3.11",
     "the list starts again at its end",
     (READER, "        if not self.choices:\n            raise Ended(\"nochoice\")\n"),
     ("        v = self.choices[self.used]\n", "        v = self.choices[self.used % len(self.choices)]\n"),
-    kinds={27, 28, 40, 42},
+    kinds={27, 28, 42},
 )
 broken(
     "3.11",
     "the last choice is not read",
     (READER, READER.replace("== len(self.choices)", ">= len(self.choices) - 1")),
-    kinds={27, 28, 40, 42},
+    kinds={27, 28, 42},
 )
 broken(
     "3.12",
     "a choice that is not allowed ends as nochoice",
     ('            raise Ended("badchoice")\n', '            raise Ended("nochoice")\n'),
-    kinds={27, 40, 42},
+    kinds={27, 42},
 )
 broken(
     "3.12",
     "a choice that is not allowed ends as fail",
     ('            raise Ended("badchoice")\n', "            raise failed(PAST)\n"),
-    kinds={27, 40, 42},
+    kinds={27, 42},
 )
 broken(
     "3.11",
     "choices are read from the end",
     ("        v = self.choices[self.used]\n", "        v = self.choices[-1 - self.used]\n"),
-    kinds={27, 28, 40, 42},
+    kinds={27, 28, 42},
 )
 
 # The choice writer and pairrun
@@ -1293,57 +1289,15 @@ broken(
     ),
     **WRITES,
 )
-broken(
-    "4.6",
-    "the writer writes the value at 40",
-    (
-        PLACE_OF,
-        (
-            "        if self.writer and reduced:\n            self.choice(v)\n"
-            "        place = self.in_class(pointer[1]) if reduced and not self.writer else pointer[1]\n"
-        ),
-    ),
-    **WRITES,
-)
-broken(
-    "4.6",
-    "the writer writes nothing at 40",
-    (PLACE_OF, PLACE_OF.replace("if reduced", "if reduced and not self.writer")),
-    **WRITES,
-)
-broken(
-    "4.6",
-    "the writer writes nothing at 40 at a tracked place",
-    (PLACE_OF, PLACE_OF.replace("if reduced", "if reduced and not (self.writer and pointer[1] in self.pair)")),
-    **WRITES,
-)
-broken(
-    "4.6",
-    "the writer writes nothing at 40 past the length",
-    (PLACE_OF, PLACE_OF.replace("if reduced", "if reduced and not (self.writer and pointer[1] >= length)")),
-    **WRITES,
-)
-broken(
-    "4.6",
-    "the writer writes the place before the value's numbers",
-    (
-        STORED,
-        (
-            "            pointer = self.value(state, a)\n"
-            "            if self.writer and pointer[0] and self.array(state, pointer)[2]:\n"
-            "                self.choice(pointer[1])\n"
-            "            self.write(state, pointer, self.value(state, b))"
-        ),
-    ),
-    (PLACE_OF, PLACE_OF.replace("if reduced", "if reduced and not self.writer")),
-    **WRITES,
-)
-broken(
-    "4.7",
-    "the writer writes at 40 of a plain array",
-    (PLACE_OF, PLACE_OF.replace("if reduced", "if reduced or self.writer")),
-    **WRITES,
-)
+for what, test in (
+    ("", "reduced"),
+    (" at a tracked place", "reduced and pointer[1] in self.pair"),
+    (" at a place that is not tracked", "reduced and pointer[1] not in self.pair"),
+    (" past the length", "reduced and pointer[1] >= length"),
+    (" of a plain array", "not reduced"),
+):
+    broken("4.6", "the writer writes the place at 40" + what, (PLACE_OF, TAKEN_FOR_IT % ("self.writer and (%s)" % test)), **WRITES)
+broken("4.6", "the writer writes the value at 40", (PLACE_OF, (TAKEN_FOR_IT % "self.writer and reduced").replace("pointer[1])", "v)")), **WRITES)
 broken(
     "4.6",
     "the writer writes the end before the start",

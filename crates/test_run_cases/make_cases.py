@@ -201,11 +201,12 @@ class Machine:
         return {22: x < y, 23: x <= y, 24: x == y}[kind]
 
     def write(self, state, pointer, v):
+        """The number goes to the place of a pointer; in a reduced array one that is not tracked drops it. No choice is taken."""
         array = self.array(state, pointer)
         if array is None:
             raise failed(NO_ARRAY)
         first, length, reduced = array
-        place = self.in_class(pointer[1]) if reduced else pointer[1]
+        place = pointer[1]
         if place >= length:
             raise failed(PAST)
         if not reduced or self.writer:
@@ -604,8 +605,8 @@ T += [(37, 1, 0, 0), (38, 0, 1, 2), (34, 5, 6, 0), (35, 8, 0, 0), CLOSE]
 def document():
     """The examples of runs in section 8 of the rules."""
     plain(T, 100, expect="done row 5 steps 17 choices 0")
-    reduced(T, 100, choices=written(T, (1, 3), 100), expect="done row 5 steps 17 choices 30")
-    reduced(T, 100, choices=[0, 4, 0, 0, 0, 9], expect="assert row 3 steps 4 choices 6")
+    reduced(T, 100, choices=written(T, (1, 3), 100), expect="done row 5 steps 17 choices 25")
+    reduced(T, 100, choices=[0, 4, 0, 0, 9], expect="assert row 3 steps 4 choices 5")
     reduced(T, 100, choices=[1], expect="badchoice row 1 steps 1 choices 0")
     reduced(T, 100, expect="nochoice row 1 steps 1 choices 0")
     for run in (plain, reduced):
@@ -613,7 +614,7 @@ def document():
         run([], 0, expect="done row 0 steps 0 choices 0")
         run([], 0, (5, []), expect="done row 0 steps 0 choices 0")
     reduced(T, 100, pair=(1, 1), expect="refused 13 line 0")
-    reduced(T, 100, pair=(1, 2), choices=written(T, (1, 2), 100), expect="done row 5 steps 17 choices 30")
+    reduced(T, 100, pair=(1, 2), choices=written(T, (1, 2), 100), expect="done row 5 steps 17 choices 25")
     reduced(T, 100, pair=(0, 2), choices=written(T, (0, 2), 100), expect="done row 5 steps 17")
     # the second array begins after the cells that the first takes
     for pair, sizes in (
@@ -833,8 +834,42 @@ def dropped_writes():
         nodes = [constant(5), constant(place), variable(0), (20, 2, 1, 0), (19, 3, 0, 0), (20, 4, 4, 0), constant(6), (24, 5, 6, 0)]
         lines = [MP, U, *nodes, (37, 0, 0, 0), (34, 3, 6, 0), (33, 1, 4, 0), (33, 1, 5, 0), (35, 7, 0, 0)]
         both(lines, 100)
-        for choices in [place, 6, 6, 6], [place, 4, 2, 4], [place, 1, 2, 3, 3, 3], [place, BIG, BIG, 1]:
+        for choices in [6, 6, 6], [4, 2, 4], [1, 2, 3, 3, 3], [BIG, BIG, 1]:
             reduced(lines, 100, choices=choices)
+
+
+def true_places():
+    """A reduced write is judged by its place, of which it takes no choice: it fails where the plain one does, is written at a tracked place, and
+    dropped at any other below the length."""
+    for length in range(7):
+        for place in *range(8), BIG - 1, BIG:
+            lines = [MP, constant(length), constant(place), variable(0), (20, 2, 1, 0), constant(9), (37, 0, 0, 0), (34, 3, 4, 0), SKIP]
+            ended = "done row 3 steps 3" if place < length else "fail reason 4 row 1 steps 2"
+            plain(lines, 100, expect=ended)
+            for pair in (1, 3), (0, 1), (0, 2), (1, 2), (3, 4), (4, 6), (6, BIG), (BIG - 1, BIG):
+                assert written(lines, pair, 100) == []
+                for choices in [], [place]:
+                    reduced(lines, 100, pair=pair, choices=choices, expect=ended + " choices 0")
+    # what is written at each place of 5, then read: a tracked place has it, and the others take the choice
+    for pair in (1, 3), (0, 4), (3, 4), (0, 1):
+        for place in range(5):
+            lines = [MP, U, constant(5), constant(place), variable(0), (20, 2, 1, 0), constant(9), (19, 3, 0, 0)]
+            lines += [(37, 0, 0, 0), (34, 3, 4, 0), (33, 1, 5, 0)]
+            reduced(lines, 100, pair=pair, choices=[8], expect="done row 3 steps 3", holds={1: 9 if place in pair else 8})
+    # the place is that of the pointer as it is worked out: a marked iterator's is its choice, of the last class here, below the length or past it
+    lines = [MP, MU, constant(5), constant(4), variable(0), variable(1), (20, 2, 3, 0), (37, 0, 0, 0), *loop(1, 1, 1, (34, 4, 0, 0))]
+    for place, ended in (4, "steps row 3 steps 3 choices 3"), (5, "fail reason 4 row 2 steps 3 choices 3"), (BIG, "fail reason 4 row 2 steps 3 choices 3"):
+        reduced(lines, 3, choices=[4, 4, place], expect=ended)
+    # with no array it fails wherever the place is
+    for place in 0, 3, 4, BIG:
+        lines = [MP, constant(place), variable(0), (20, 1, 0, 0), constant(9), (34, 2, 3, 0)]
+        for choices in [], [place]:
+            reduced(lines, 100, choices=choices, expect="fail reason 3 row 0 steps 1 choices 0")
+    # a record continued at the write, with other lengths and places
+    lines = [MP, constant(5), constant(3), variable(0), (20, 2, 1, 0), constant(9), (37, 0, 0, 0), (34, 3, 4, 0)]
+    for length, place in (5, 0), (4, 0), (3, 0), (4, 1), (5, 1), (5, 2), (7, 3), (9, BIG - 3):
+        ended = "done row 2 steps 1" if place + 3 < length else "fail reason 4 row 1 steps 1"
+        reduced(lines, 1, (9, [(LENGTH, 0, length), (NUMBER, 0, place)]), expect=ended + " choices 0")
 
 
 def choices_taken():
@@ -851,11 +886,6 @@ def choices_taken():
     for choices in [6, 9], [9, 6], [9, 9, 9, 10, 4], [4, BIG, 7, 5, 8, 4], [BIG, BIG, 4, 4], [3, 9], [2, 9], [6, 3], [6, 2], [4, 5, 5, 6, 3]:
         for pair in (1, 3), (0, 5), (8, BIG), (6, 9), (5, 6), (8, 9):
             reduced(lines, 4, 100, pair=pair, choices=choices)
-    # a write's choice past the length fails, and counts
-    lines = [MP, constant(5), constant(9), variable(0), (20, 2, 1, 0), (20, 2, 0, 0), (37, 0, 0, 0), (34, 3, 0, 0)]
-    for choices in [], [9], [4], [5], [3], [2]:
-        reduced(lines, 100, choices=choices)
-        reduced(lines[:-1] + [(34, 4, 0, 0)], 100, choices=choices)
     # a fail after a choice counts it; a marked uint that no loop uses holds the class of 0
     lines = [MU, U, variable(0), constant(1), (21, 0, 1, 0), (33, 1, 2, 0)]
     for pair in (0, 2), (1, 3), (5, 7), (0, 1), (3, 4):
@@ -918,12 +948,6 @@ def reasons_of_cells():
     for first, second in (P, P), (P, MP), (MP, P), (MP, MP):
         fails_for(NO_ARRAY, [first, second, *nodes, (35, 11, 0, 0)])
         fails_for(PAST, [first, second, *nodes, (37, 0, FIVE, 0), (35, 11, 0, 0)])
-    # 40 goes by its choice, which it takes where there is an array: places 5 and 4 of 5, both in the last class
-    for place in (5, 4):
-        lines = [MP, constant(5), constant(place), variable(0), (20, 2, 1, 0), (37, 0, 0, 0), (34, 3, 0, 0)]
-        reduced(lines, 100, choices=[5], expect="fail reason 4 row 1 steps 2 choices 1")
-        reduced(lines, 100, choices=[4], expect="done row 2 steps 2 choices 1")
-    reduced(lines[:-2] + lines[-1:], 100, choices=[4], expect="fail reason 3 row 0 steps 1 choices 0")
 
 
 def reasons_of_counters():
@@ -2229,6 +2253,7 @@ def main():
     pointers()
     kinds_of_arrays()
     dropped_writes()
+    true_places()
     choices_taken()
     reasons_of_sums()
     reasons_of_cells()

@@ -14,7 +14,9 @@ CALLS = [MU, U, U, U, U, constant(0), constant(1), variable(0), variable(2), (20
 CALLS += [(38, 0, 0, 1), (45, 0, 2, 1), CLOSE, (45, 2, 0, 1), (45, 1, 2, 1)]
 CALLS += [(43, 2, 1, 0), (38, 0, 0, 0), (44, 4, 0, 0), CLOSE]
 CALLS += [(43, 3, 1, 0), (45, 1, 2, 3), (43, 4, 1, 0)]
-TABLES = T, CALLS
+# T with a walk that goes one circuit too far, where its write fails
+FAR = [constant(5) if line == constant(4) else line for line in T]
+TABLES = T, CALLS, FAR
 
 
 def plain_run(table, limit):
@@ -54,7 +56,9 @@ def main():
             plain_end, taken, _, _ = plain_run(table, steps)
             assert write_choices(table, PAIR, LIMIT, n)[:2] == (plain_end if whole else "full", taken)
     # two choices to enter the loop of main; six in each of its two rounds, of which the call and the return have one each; one at each of nine calls
-    assert lines()[-1].startswith("room 31 deep row 10 steps 20 count 23 open 0 arrays 0 callers 8 ")
+    assert lines()[2 * MOST + 1].startswith("room 31 deep row 10 steps 20 count 23 open 0 arrays 0 callers 8 ")
+    # the 25 numbers of T, the last two for a round more, and the iterator's at the write that fails: with room for these 26 it fails, and is not full
+    assert lines()[-6].startswith("room 26 fail reason 4 row 2 steps 18 count 26 ") and lines()[-7].startswith("room 25 full row 2 steps 17 count 25 ")
     (HERE / "stdout").write_text("".join(line + "\n" for line in lines()))
 
 

@@ -94,9 +94,8 @@ module _ (ps : List ℕ) (t : Table) (s : State) where
   keep-reduced : (p : Ptr) (x : ℕ) (cs : List ℕ) → Keeps same (reducedWrite ps s p x cs)
   keep-reduced p x cs =
       keep-next same (arrayOf (s .arrays) (p .array) cs) _
-      (λ r cs. keep-next same ((if r .reduced then choose (λ v. eqb (class ps v) (class ps (p .place))) else give (p .place)) cs) _
-      (λ v cs. keep-if same (ltb v (r .len)) (if keeps ps r v then put ps s r (indexOf ps r v) x else give (to (past s))) _ cs
-      (keep-if same (keeps ps r v) (put ps s r (indexOf ps r v) x) _ cs (keep-put r (indexOf ps r v) x cs) refl) tt))
+      (λ r cs. keep-if same (ltb (p .place) (r .len)) (if keeps ps r (p .place) then put ps s r (indexOf ps r (p .place)) x else give (to (past s))) _ cs
+      (keep-if same (keeps ps r (p .place)) (put ps s r (indexOf ps r (p .place)) x) _ cs (keep-put r (indexOf ps r (p .place)) x cs) refl) tt)
 
   keep-enter : (s′ : State) → length (s′ .arrays) ≡ same → (r : ℕ) (v : Value) (from upto : ℕ) (out : Work ℕ) (cs : List ℕ)
       → Keeps same (enter t s′ r v from upto out cs)

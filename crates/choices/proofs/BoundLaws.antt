@@ -24,7 +24,7 @@ use Rattle.model.specs.State.Value.{Truth, Uint, Class, Pointer}
 use Rattle.model.specs.Eval.{Of, Ptr, below, evalF, contentsOf, load, variableOf, nextStart}
 use Rattle.model.specs.Step.{Move, finished, node, step}
 use Rattle.model.specs.Step.Move.{to, stop}
-use Rattle.model.specs.Writer.{given, numberOf, kept, heldReduced, loadChoices, storeChoices, loopChoices, repeatChoices, choicesRule, choicesF}
+use Rattle.model.specs.Writer.{given, numberOf, kept, loadChoices, loopChoices, repeatChoices, choicesRule, choicesF}
 use Rattle.model.specs.Writer.{nodeChoices, rowChoices, stepChoices, heldNext, onward, written}
 
 -- ---- powers of two
@@ -211,10 +211,7 @@ module _ (ps : List ℕ) (t : Table) (ks : List Bool) (s : State) where
     unfolding rowChoices
     row-most n skip a b c = omega numbers
     row-most n assign a b c = let h = node-most (typeAt t a) b in omega (numbers, h)
-    row-most n store a b c =
-        two-nodes pointer a (node [] t s pointer a []) _
-        (λ p. then-few uint b (node [] t s uint b []) (λ x. storeChoices ps t ks s p)
-            (λ x. if-most (heldReduced ks (p .array)) (p .place ∷ []) 2 (omega numbers)))
+    row-most n store a b c = two-nodes pointer a (node [] t s pointer a []) _ (λ p. let h = node-most uint b in omega (numbers, h))
     row-most n assert a b c = let h = node-most bool a in omega (numbers, h)
     row-most n assume a b c = let h = node-most bool a in omega (numbers, h)
     row-most n array a b c = let h = node-most uint b in omega (numbers, h)

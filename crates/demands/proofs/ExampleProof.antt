@@ -72,6 +72,6 @@ pub examples-hold : ExamplesHold
 unfolding listed tab sum all walk class tracked acceptedPlaces tableOf typeOf marked nodeKind rowKind matchingEnd fresh cellsLaid
     rule evalF eval rowRule stepAt step atEnd finished run reducedKind reduce T results expected
 examples-hold =
-    rw (T-passes, T-reduces, Q-passes, run-Q 100 (0 ∷ 4 ∷ 0 ∷ 0 ∷ 0 ∷ 9 ∷ []), run-Q 100 (1 ∷ []), run-Q 100 [], run-Q 0 [],
+    rw (T-passes, T-reduces, Q-passes, run-Q 100 (0 ∷ 4 ∷ 0 ∷ 0 ∷ 9 ∷ []), run-Q 100 (1 ∷ []), run-Q 100 [], run-Q 0 [],
         run-is plain [] T [] 0 T-passes refl, run-is plain [] [] [] 0 (none-passes plain) refl,
         run-is reduced (pair 1 3) [] [] 0 (none-passes reduced) places-pass) refl

@@ -7,5 +7,6 @@ pub mod ReasonsProof
 pub mod NeighboursProof
 pub mod IteratorsProof
 pub mod ProceduresProof
+pub mod FalseAlarmsProof
 pub mod Demand3Proof
 pub mod ExampleProof

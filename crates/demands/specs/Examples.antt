@@ -60,7 +60,7 @@ results =
     says (tableCheck plain T)
     ∷ says (reduceAnswer T (pair 1 3) (length T))
     ∷ says (tableCheck reduced Q)
-    ∷ runReduced Q 100 (0 ∷ 4 ∷ 0 ∷ 0 ∷ 0 ∷ 9 ∷ [])
+    ∷ runReduced Q 100 (0 ∷ 4 ∷ 0 ∷ 0 ∷ 9 ∷ [])
     ∷ runReduced Q 100 (1 ∷ [])
     ∷ runReduced Q 100 []
     ∷ runReduced Q 0 []
@@ -85,8 +85,8 @@ expected =
     says Passes
     ∷ says Passes
     ∷ says Passes
-    -- T reduced, choices 0 4 0 0 0 9: an assert is false at row 3, after 4 steps and 6 choices
-    ∷ ran assertFalse 3 4 6
+    -- T reduced, choices 0 4 0 0 9: an assert is false at row 3, after 4 steps and 5 choices
+    ∷ ran assertFalse 3 4 5
     -- choices 1: not allowed, at row 1 after 1 step; no choices: none left, there too
     ∷ ran choiceNotAllowed 1 1 0
     ∷ ran noChoiceLeft 1 1 0

@@ -7,5 +7,6 @@ pub mod Reasons
 pub mod Neighbours
 pub mod Iterators
 pub mod Procedures
+pub mod FalseAlarms
 pub mod Demand3
 pub mod Examples

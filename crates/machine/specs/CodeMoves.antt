@@ -4,20 +4,17 @@ use Prim.Native.Nat.{ℕ, suc, _+_, _<_, _≤_}
 use mathlib.Core.Logic.{_≢_}
 use mathlib.Core.List.{List, [], _∷_}
 use lib.ListN.{length, getD, drop, set}
-use lib.Dec.{ltb, eqb}
 use Rattle.lists.specs.If.{if_then_else_}
 use mathlib.Core.Bool.{Bool, true, false}
 use Rattle.model.specs.Class.{class}
 use Rattle.model.specs.Table.{Table, rowAt, Row, rowKind, nestAt, opening, localsAt}
 use Rattle.model.specs.Table.Row.{store, reducedStore, loop, classLoop, call}
 use Rattle.model.specs.Table.Nest.{opens}
-use Rattle.model.specs.Work.{Out, Work, _>>=_, give, fail, choose}
-use Rattle.model.specs.Work.Reason.{pastLength}
+use Rattle.model.specs.Work.{Out, Work, give}
 use Rattle.model.specs.Work.Out.{gives, stuck}
-use Rattle.model.specs.State.{Value, Array, Caller, caller, State, position}
+use Rattle.model.specs.State.{Value, Caller, caller, State, position}
 use Rattle.model.specs.State.Value.{Uint, Class}
-use Rattle.model.specs.Eval.{keeps, indexOf}
-use Rattle.model.specs.Step.{Move as ModelMove, cleared, past, withVar, withLoops, withWork, numbersIn, handedOver, argument, pastEnd, put, loopAt, rowRule}
+use Rattle.model.specs.Step.{Move as ModelMove, cleared, past, withVar, withLoops, withWork, numbersIn, handedOver, argument, pastEnd, loopAt, rowRule}
 use Rattle.model.specs.Step.{step}
 use Rattle.model.specs.Step.Move.{to, stop}
 use Rattle.prepared.specs.declared.Form.the-variants.{Bool as FBool}
@@ -179,23 +176,10 @@ pub record CallsFit (own map stack : List ℕ) (m : Machine) (cells : List ℕ) 
   pub last : 1 ≤ depthOf stack → CanReturn own stack (m .row)
   pub goes : (cs : List ℕ) → step (placesOf own) (ownTable own) (ownState own stack m cells) cs ≢ stuck
 
--- ---- 34 and 40, with the operands worked out
+-- ---- 34 and 40
 abbrev pub storeRow : Bool → Row
 storeRow true = reducedStore
 storeRow false = store
-
--- place v of an array gets x, by 40 (rule 3.18)
-abbrev pub keptIn : List ℕ → State → ℕ → Array → ℕ → Work ModelMove
-keptIn ps s x r v = if ltb v (r .len) then (if keeps ps r v then put ps s r (indexOf ps r v) x else give (to (past s))) else fail pastLength
-
--- place p of an array gets x, by 40 or by 34: what the model's `reducedWrite` and `write` do with the array
-abbrev pub storeIn : Bool → List ℕ → State → ℕ → ℕ → Array → Work ModelMove
-storeIn true ps s p x r = (if r .reduced then choose (λ v. eqb (class ps v) (class ps p)) else give p) >>= keptIn ps s x r
-storeIn false ps s p x r = if ltb p (r .len) then put ps s r p x else fail pastLength
-
--- what a write comes to is o of the state, whatever the record and the cells, of which so many are lent
-pub record Stores (own l : List ℕ) (room : ℕ) (r : Worked) (o : State → Out ModelMove) : Type 0 where
-  pub stores : (stack : List ℕ) (m : Machine) (cells : List ℕ) → length cells ≡ room → Works own stack m cells l r (o (ownState own stack m cells))
 
 -- ---- 38, 42 and 39, with start and end worked out
 abbrev pub loopRow : Bool → Row

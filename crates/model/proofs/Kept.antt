@@ -26,9 +26,8 @@ use Rattle.model.specs.Work.{Reason, Out, Work, _>>=_, choose, fail, giv
 use Rattle.model.specs.Work.Out.{gives, fails, badChoice, noChoice, stuck}
 use Rattle.model.specs.State.{Array, Caller, Loop, MachineKind, Position, State, Value, classed, formOf, fresh, mostArrays, mostCallers, position}
 use Rattle.model.specs.State.{startOf}
-use Rattle.model.specs.State.MachineKind.{reduced}
 use Rattle.model.specs.State.Value.{Truth, Uint, Class, Pointer}
-use Rattle.model.specs.Eval.{Of, Ptr, Contents, add, sumOr, arrayOf, asClass, bools, cellOf, compare, eval, evalF, indexOf, isValid, keeps, load, ofType}
+use Rattle.model.specs.Eval.{Of, Ptr, Contents, add, sumOr, arrayOf, asClass, bools, cellOf, compare, eval, evalF, isValid, keeps, load, ofType}
 use Rattle.model.specs.Eval.{present, reducedLoad, rule, sizeOf, contentsOf, subtract, sumOrDifference, uints, cellsLaid, value, variableOf}
 use Rattle.model.specs.Step.{End, Move, addArray, after, enter, laidNext, loopAt, newArray, node, past, pastEnd, put, reducedWrite}
 use Rattle.model.specs.Step.{argument, callProcedure, finished, giveBack, goTo, handOver, handedOver, renumbered, repeatLoop, rowRule, run, setVar}
@@ -304,14 +303,9 @@ module _ (ps : List ℕ) (m : MachineKind) (t : Table) where
   keeps-reducedWrite : (s : State) → Regular ps m t s → Onwards s → (p : Ptr) (x : ℕ) → Keeps MoveRegular (reducedWrite ps s p x)
   keeps-reducedWrite s R n p x =
       keeps-bind (any-array (s .arrays) (p .array))
-      (λ r _. keeps-bind (place (r .reduced))
-      (λ v _. keeps-if (ltb v (r .len))
-          (λ _. keeps-if (keeps ps r v) (λ _. keeps-put s R n r (indexOf ps r v) x) (λ _. keeps-give (regular-at s R _ n (s .arrays) _ (R .few))))
-          (λ _. keeps-fail)))
-    where
-      place : (b : Bool) → Keeps Any (if b then choose (λ v. eqb (class ps v) (class ps (p .place))) else give (p .place))
-      place true = any-choose _
-      place false = keeps-give tt
+      (λ r _. keeps-if (ltb (p .place) (r .len))
+          (λ _. keeps-if (keeps ps r (p .place)) (λ _. keeps-put s R n r _ x) (λ _. keeps-give (regular-at s R _ n (s .arrays) _ (R .few))))
+          (λ _. keeps-fail))
 
   regular-added : (s : State) → Regular ps m t s → Onwards s → (n : ℕ) (f : Bool) → MoveRegular (addArray ps s n f)
   regular-added s R o n f = go (leb mostArrays (length (s .arrays))) refl (leb (cellsLaid ps (s .arrays) + sizeOf ps (laidNext ps s n f)) (length (s .cells)))

@@ -36,5 +36,6 @@ pub mod MatchRun
 -- the choice writer and demand 3
 pub mod WriterLaws
 pub mod Demand3Proof
--- which reasons a node and a row can have
+-- which reasons a node and a row can have, and where a reduced write fails
 pub mod ReasonLaws
+pub mod TruePlaceLaws

@@ -18,7 +18,7 @@ use Rattle.model.specs.Table.{rowKind, stretch, typeAt, within}
 use Rattle.model.specs.Table.Ty.{bool, uint, pointer}
 use Rattle.model.specs.Table.Row.{skip, assign, store, assert, assume, array, loop, loopEnd, reducedStore, reducedArray, classLoop}
 use Rattle.model.specs.Table.Row.{procedure, returns, call, noRow}
-use Rattle.model.specs.Work.{Work, _>>=_, choose, fail, give, wrong}
+use Rattle.model.specs.Work.{Work, _>>=_, fail, give, wrong}
 use Rattle.model.specs.Work.Reason.{pastLength}
 use Rattle.model.specs.Work.Out.{gives}
 use Rattle.model.specs.State.{Array, Caller, Loop, MachineKind, Position, State, Value, position, mostArrays, mostCallers, formOf, placesIn}
@@ -31,7 +31,7 @@ use Rattle.model.specs.Step.{opened, stepAt, withCell, withHere, withMem
 use Rattle.model.specs.Step.End.{assertFalse, assumeFalse, wantOfCells}
 use Rattle.model.specs.Step.Move.{to, stop}
 use Rattle.model.specs.Agree.{SameVariable, arrayAt}
-use Rattle.model.specs.Writer.{given, heldAfter, heldNext, loopChoices, nodeChoices, repeatChoices, rowChoices, stepChoices, storeChoices}
+use Rattle.model.specs.Writer.{given, heldAfter, heldNext, loopChoices, nodeChoices, repeatChoices, rowChoices, stepChoices}
 use Rattle.model.proofs.Match.{Match, Matches, Plainly, listed, match-bind, match-choose, match-give, match-last, match-told, matches-are}
 use Rattle.model.proofs.Match.{matches-as, matches-either, matches-fail, matches-give, matches-if, matches-with, matches-wrong}
 use Rattle.model.proofs.Memory.{inside, split}
@@ -76,10 +76,7 @@ store-acts ps t s n a b c plain h = ap (λ (w : Ptr → ℕ → Work Move). node
     (flat-write ps s (h refl))
 store-acts ps t s n a b c reduced h = refl
 
--- a write, once its array is known: its place, which may be chosen, and what is done there
-abbrev placed : List ℕ → Bool → ℕ → Work ℕ
-placed ps b q = if b then choose (λ v. eqb (class ps v) (class ps q)) else give q
-
+-- a write, once its array is known
 abbrev stored : List ℕ → State → Array → ℕ → ℕ → Work Move
 stored ps s a x v = if ltb v (a .len) then (if keeps ps a v then put ps s a (indexOf ps a v) x else give (to (past s))) else fail pastLength
 
@@ -130,15 +127,6 @@ only-none true c e = refl
 only-none false c e = e
 
 -- ---- two machines
-
-match-placed : {m : MachineKind} {F : ℕ → Type 0} (ps : List ℕ) (b c : Bool) → AlsoMarked m b c → (q : ℕ) → F q
-    → Match m F F (placed (placesIn m ps) b q) (placed ps c q) (if c then q ∷ [] else [])
-match-placed ps false false h q k = match-give k
-match-placed ps false true h q k = match-told (λ v. eqb (class ps v) (class ps q)) q (eq-eqb (class ps q) (class ps q) refl) k
-match-placed ps true false h q k = absurd (false≢true (h refl .1))
-match-placed {m} {F} ps true true h q k =
-    subst (λ qs. Match m F F (placed qs true q) (placed ps true q) (q ∷ [])) (sym (same-places (h refl .0) ps))
-        (match-choose (never-plain (h refl .0)) (λ v. eqb (class ps v) (class ps q)))
 
 module _ {m : MachineKind} {F : ℕ → Type 0} (ps : List ℕ) (extra : Extra) {us bs : ℕ → Bool} {t v u : Table} (R : Related m F us bs t v u) where
   abbrev fs : List ℕ
@@ -314,21 +302,15 @@ module _ {m : MachineKind} {F : ℕ → Type 0} (ps : List ℕ) (extra : Extra) 
             absurd (false≢true (sym f ∙ kept-also m ps (arrayAt (p .arrays) i .reduced) (arrayAt (r .arrays) i .reduced) q (M .also i h) g))
         go true e false f false g = matches-as (λ cs. simp (e, f)) (λ cs. simp (inside-second e, g)) (matches-give (both-to (linked-past A)))
 
-    match-write : {p r : State} → L ks p r → (i q y : ℕ) → F q → F y
-        → Matches m F (Moves extra (L ks)) (reducedWrite fs p (ptr i q) y) (reducedWrite ps r (ptr i q) y) (storeChoices ps t ks p (ptr i q))
-    match-write A zero q y fq fy = matches-fail
-    match-write {p} {r} A (suc i) q y fq fy = go (ltb i (length (p .arrays))) refl
+    match-write : {p r : State} → L ks p r → (i q y : ℕ) → F y
+        → Matches m F (Moves extra (L ks)) (reducedWrite fs p (ptr i q) y) (reducedWrite ps r (ptr i q) y) []
+    match-write A zero q y fy = matches-fail
+    match-write {p} {r} A (suc i) q y fy = go (ltb i (length (p .arrays))) refl
       where
         go : (d : Bool) → ltb i (length (p .arrays)) ≡ d
-            → Matches m F (Moves extra (L ks)) (reducedWrite fs p (ptr (suc i) q) y) (reducedWrite ps r (ptr (suc i) q) y)
-                (if getD ks i false then q ∷ [] else [])
+            → Matches m F (Moves extra (L ks)) (reducedWrite fs p (ptr (suc i) q) y) (reducedWrite ps r (ptr (suc i) q) y) []
         go false d = matches-as (λ cs. simp d) (λ cs. simp (A .memory .number, d)) matches-wrong
-        go true d =
-            let h : i < length (p .arrays) = ltb-true i _ d in
-            rw (A .memory .flag i h)
-            (matches-as (λ cs. simp d) (λ cs. simp (A .memory .number, d))
-            (match-last (match-placed ps (arrayAt (p .arrays) i .reduced) (arrayAt (r .arrays) i .reduced) (A .memory .also i h) q fq)
-                (λ a _. match-stored A i h y fy a)))
+        go true d = matches-as (λ cs. simp d) (λ cs. simp (A .memory .number, d)) (match-stored A i (ltb-true i _ d) y fy q)
 
     match-array : ((n : ℕ) → class ps n ≤ n + extra .perArray) → {p r : State} → L ks p r → (n : ℕ) (b c : Bool) → AlsoMarked m b c
         → Moves extra (L (ks ++ c ∷ [])) (addArray fs p n b) (addArray ps r n c)
@@ -543,9 +525,8 @@ module _ {m : MachineKind} {F : ℕ → Type 0} (ps : List ℕ) (extra : Extra) 
     match-row {p} {r} A n store z h b c =
         matches-are (store-acts fs v p n (rowAt t n .a) b c m (first-flat (R .closed) (R .uints) A)) refl
         (listed (λ h. ap (λ (nd : (w : Ty) → ℕ → Work (Of w)). nodeChoices ps t ks p pointer (rowAt t n .a)
-            ++ given (nd pointer (rowAt t n .a) []) (λ x. nodeChoices ps t ks p uint b ++ given (nd uint b []) (λ y. storeChoices ps t ks p x)))
-            (plain-node ks p h))
-        (match-bind (match-node ks A pointer _) (λ x fx. match-bind (match-node ks A uint b) (λ y fy. match-write ks A (x .array) (x .place) y fx fy))))
+            ++ given (nd pointer (rowAt t n .a) []) (λ x. nodeChoices ps t ks p uint b)) (plain-node ks p h))
+        (match-bind (match-node ks A pointer _) (λ x _. match-last (match-node ks A uint b) (λ y fy. match-write ks A (x .array) (x .place) y fy))))
     match-row A n assert z h b c = match-last (match-node ks A bool _) (λ x _. matches-give (tested ks A x assertFalse))
     match-row A n assume z h b c = match-last (match-node ks A bool _) (λ x _. matches-give (tested ks A x assumeFalse))
     match-row {p} {r} A n array z h b c =

@@ -30,12 +30,12 @@ use Rattle.model.proofs.EvalLaws.{eval-is}
 use Rattle.model.specs.Reasons.{FailsFor, ValidFailsAsOperand, NodesNeverCounter, kindHere, ClosingOnlyCounter, OthersNeverCounter}
 
 -- whatever the choices, what fails does so for a reason with the property
-record For {A : Type 0} (P : Reason → Type 0) (w : Work A) : Type 0 where
-  failsFor : (cs : List ℕ) → FailsFor P (w cs)
+pub record For {A : Type 0} (P : Reason → Type 0) (w : Work A) : Type 0 where
+  pub failsFor : (cs : List ℕ) → FailsFor P (w cs)
 
 -- ---- how work is put together
 module _ {P : Reason → Type 0} {A : Type 0} where
-  give-for : {a : A} → For P (give a)
+  pub give-for : {a : A} → For P (give a)
   give-for = record { failsFor = λ cs. tt }
 
   wrong-for : For P (wrong {A = A})
@@ -44,7 +44,7 @@ module _ {P : Reason → Type 0} {A : Type 0} where
   fail-for : {why : Reason} → P why → For P (fail {A = A} why)
   fail-for h = record { failsFor = λ cs. h }
 
-  if-for : (b : Bool) {v w : Work A} → For P v → For P w → For P (if b then v else w)
+  pub if-for : (b : Bool) {v w : Work A} → For P v → For P w → For P (if b then v else w)
   if-for true x y = x
   if-for false x y = y
 
@@ -119,7 +119,7 @@ module _ {P : Reason → Type 0} where
   set-for : (s : State) (a : ℕ) (v : Value) → For P (setVar s a v)
   set-for s a v = then-for (variable-for (s .vars) a) (λ old. if-for (eqb (formOf v) (formOf old)) give-for wrong-for)
 
-  put-for : (ps : List ℕ) (s : State) (r : Array) (i x : ℕ) → For P (put ps s r i x)
+  pub put-for : (ps : List ℕ) (s : State) (r : Array) (i x : ℕ) → For P (put ps s r i x)
   put-for ps s r i x = if-for (ltb i (sizeOf ps r)) (if-for (ltb (r .start + i) (length (s .cells))) give-for wrong-for) wrong-for
 
   new-for : (ps : List ℕ) (s : State) (a n : ℕ) (f : Bool) → For P (newArray ps s a n f)
@@ -273,8 +273,7 @@ module _ (ps : List ℕ) (t : Table) (s : State) where
 
   reducedWrite-for : (p : Ptr) (x : ℕ) → For Other (reducedWrite ps s p x)
   reducedWrite-for p x = then-for (array-for (s .arrays) (p .array))
-      (λ r. then-for (if-for (r .reduced) (choose-for _) give-for)
-      (λ v. if-for (ltb v (r .len)) (if-for (keeps ps r v) (put-for ps s r (indexOf ps r v) x) give-for) past-for))
+      (λ r. if-for (ltb (p .place) (r .len)) (if-for (keeps ps r (p .place)) (put-for ps s r (indexOf ps r (p .place)) x) give-for) past-for)
 
   node-for : (w : Ty) (n : ℕ) → For Other (node ps t s w n)
   node-for w n = below-for ps (contentsOf s) (t .nodes) (eval-for ps (contentsOf s) t) w n

@@ -67,7 +67,7 @@ RowFits m t ty assume a b c = (a < t .nodes) × (ty a ≡ bool)
 RowFits m t ty array a b c = (a < t .decls) × (b < t .nodes) × (ty b ≡ uint) × (typeAt t a ≡ pointer) × (classed m t a ≡ false)
 RowFits m t ty loop a b c = (b < t .nodes) × (c < t .nodes) × (ty b ≡ uint) × (ty c ≡ uint) × (a < t .decls) × (typeAt t a ≡ uint) × (classed m t a ≡ false)
 RowFits m t ty loopEnd a b c = Unit {0}
-RowFits m t ty reducedStore a b c = (a < t .nodes) × (b < t .nodes) × (ty a ≡ pointer) × (ty b ≡ uint) × (m ≡ reduced)
+RowFits m t ty reducedStore a b c = (a < t .nodes) × (b < t .nodes) × (ty a ≡ pointer) × (ty b ≡ uint)
 RowFits m t ty reducedArray a b c = (a < t .decls) × (b < t .nodes) × (ty b ≡ uint) × (typeAt t a ≡ pointer) × (classed m t a ≡ false) × (m ≡ reduced)
 RowFits m t ty classLoop a b c = (b < t .nodes) × (c < t .nodes) × (ty b ≡ uint) × (ty c ≡ uint) × (a < t .decls) × (typeAt t a ≡ uint)
     × (classed m t a ≡ true) × (m ≡ reduced)
@@ -301,7 +301,7 @@ module _ (m : MachineKind) (t : Table) (ty : ℕ → Ty) where
   row-fits r array a b c x y o z u v = laid-out a b y z
   row-fits r loop a b c x y o z u v = looped a b c false y z (unclassed m t a u)
   row-fits r loopEnd a b c x y o z u v = tt
-  row-fits r reducedStore a b c x y o z u v = let s = stored a b y z in (s .0, s .1, s .2, s .3, is-reduced m x)
+  row-fits r reducedStore a b c x y o z u v = stored a b y z
   row-fits r reducedArray a b c x y o z u v = let s = laid-out a b y z in (s .0, s .1, s .2, s .3, s .4, is-reduced m x)
   row-fits r classLoop a b c x y o z u v = let s = looped a b c true y z (classed-is m t a x u) in (s .0, s .1, s .2, s .3, s .4, s .5, s .6, is-reduced m x)
   row-fits r procedure a b c x y o z u v = listed a b o z (rightly t r a b v .1)

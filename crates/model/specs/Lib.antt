@@ -16,3 +16,4 @@ pub mod EmptyClasses
 pub mod IdleLocals
 pub mod MainEnd
 pub mod Reasons
+pub mod TruePlace

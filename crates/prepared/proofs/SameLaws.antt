@@ -337,8 +337,7 @@ module _ (t : List ℕ) (f : Frame) (own : List ℕ) (S : InSorts (tableFor t f)
     same-row-choices n skip l h = refl
     same-row-choices n assign l h = rw (same-type (l .a) (ltb-true _ _ (and-left _ _ h))) (same-node-choices (typeAt table (l .a)) (l .b))
     same-row-choices n store l h =
-        rw (same-node-choices pointer (l .a), same-node-choices uint (l .b))
-        (rw (same-node [] (contentsOf s) pointer (l .a), same-node [] (contentsOf s) uint (l .b)))
+        rw (same-node-choices pointer (l .a), same-node-choices uint (l .b)) (rw (same-node [] (contentsOf s) pointer (l .a)))
     same-row-choices n assert l h = same-node-choices bool (l .a)
     same-row-choices n assume l h = same-node-choices bool (l .a)
     same-row-choices n array l h = same-node-choices uint (l .b)

@@ -21,8 +21,8 @@ use Rattle.model.specs.Table.Row.{store, loop, loopEnd}
 use Rattle.model.specs.Work.{Out, Work, give}
 use Rattle.model.specs.State.{State}
 use Rattle.model.specs.Eval.{Of, Ptr, ptr, nextStart, arrayOf}
-use Rattle.model.specs.Step.{Move, write, loopAt, pastEnd, node}
-use Rattle.model.specs.Writer.{given, heldReduced, nodeChoices, repeatChoices, rowChoices}
+use Rattle.model.specs.Step.{Move, loopAt, pastEnd, node}
+use Rattle.model.specs.Writer.{given, nodeChoices, repeatChoices, rowChoices}
 use Rattle.prepared.specs.Own.{placesOf, ownTable}
 use Rattle.evaluators.proofs.answers.Answer.{the-type as answer}
 use Rattle.evaluators.specs.declared.answers.Failure.the-variants.{Fails, Stuck}
@@ -43,39 +43,28 @@ use Rattle.machine.specs.View.{ownState}
 use Rattle.machine.specs.CodeMoves.{outer, LoopFits, RepeatFits, Works}
 use Rattle.row_kinds.specs.CodeRows.{lostOf, fitsIn, sizeFor, cellGets, placeGets, targetGets, iterForm, iterNumber, wayOut, leaveOf, entryOf}
 use Rattle.row_kinds.proofs.PutLaws.{lends, works-same}
-use Rattle.row_kinds.proofs.WriteLaws.{works-by, target-writes, store-first, store-second, store-both}
+use Rattle.row_kinds.proofs.WriteLaws.{works-by, store-first, store-second, store-both}
 use Rattle.calls.proofs.StackLaws.{loops-split}
 use Rattle.row_kinds.proofs.LoopLaws.{entry-loops, open-first, open-second, open-both, kind-read, kind-38, row-there}
 use Rattle.row_kinds.proofs.LoopLaws.{repeat-none, repeat-ends, repeat-loop, repeat-other}
 use Rattle.recording.specs.CodePushes.{Pushed, pushed, push, pushAll}
 use Rattle.recording.specs.CodeRecords.{Plain, heldOf, pairOf, ReachedBy, Records, Recorded}
 use Rattle.recording.specs.CodeMoves.{ReachedMove, RowRecords}
-use Rattle.recording.proofs.PushLaws.{push-one, push-none, push-append}
+use Rattle.recording.proofs.PushLaws.{push-append}
 use Rattle.recording.proofs.RecordLaws.{Gave, Lost, gave-uint, gave-pointer, lost-uint, lost-pointer, lost-given, says-next}
 use Rattle.recording.proofs.NumberLaws.{row-numbers, row-operand}
 
--- ---- the numbers that a row has of its own, by what decides whether the reduced run takes a choice there
-module _ (out : List ℕ) (at : ℕ) {q : Bool} where
-  pub place-held : (count : ℕ) (held new : List ℕ) (to place : ℕ) {n : ℕ} → q ≡ heldReduced (heldOf count held) to → q ≡ true
-      → pushed new n ≡ push place (pushed out at)
-      → pushed new n ≡ pushAll (if heldReduced (heldOf count held) to then place ∷ [] else []) (pushed out at)
-  place-held count held new to place g e h = rw (← g, e) (h ∙ sym (push-one place (pushed out at)))
+-- ---- the numbers that a loop has of its own: start x and end y, by the mark of its iterator a
+module _ (out : List ℕ) (at : ℕ) {q : Bool} (own : List ℕ) (row x y : ℕ) {a : ℕ} (ea : a ≡ rowAt (ownTable own) row .a) (g : q ≡ marked own 2 a) where
+  pub bounds-marked : (mid new : List ℕ) {i n : ℕ} → q ≡ true → pushed mid i ≡ push x (pushed out at) → pushed new n ≡ push y (pushed mid i)
+      → pushed new n ≡ pushAll (if marked own 2 (rowAt (ownTable own) row .a) then x ∷ y ∷ [] else []) (pushed out at)
+  unfolding pushAll
+  bounds-marked mid new e h l = rw (← ea, ← g, e) (l ∙ ap (push y) h)
 
-  pub place-free : (count : ℕ) (held : List ℕ) (to place : ℕ) → q ≡ heldReduced (heldOf count held) to → q ≡ false
-      → pushed out at ≡ pushAll (if heldReduced (heldOf count held) to then place ∷ [] else []) (pushed out at)
-  place-free count held to place g e = rw (← g, e) (sym (push-none (pushed out at)))
-
-  -- start x and end y of a loop, by the mark of its iterator a
-  module _ (own : List ℕ) (row x y : ℕ) {a : ℕ} (ea : a ≡ rowAt (ownTable own) row .a) (g : q ≡ marked own 2 a) where
-    pub bounds-marked : (mid new : List ℕ) {i n : ℕ} → q ≡ true → pushed mid i ≡ push x (pushed out at) → pushed new n ≡ push y (pushed mid i)
-        → pushed new n ≡ pushAll (if marked own 2 (rowAt (ownTable own) row .a) then x ∷ y ∷ [] else []) (pushed out at)
-    unfolding pushAll
-    bounds-marked mid new e h l = rw (← ea, ← g, e) (l ∙ ap (push y) h)
-
-    pub bounds-unmarked : q ≡ false
-        → pushed out at ≡ pushAll (if marked own 2 (rowAt (ownTable own) row .a) then x ∷ y ∷ [] else []) (pushed out at)
-    unfolding pushAll
-    bounds-unmarked e = rw (← ea, ← g, e)
+  pub bounds-unmarked : q ≡ false
+      → pushed out at ≡ pushAll (if marked own 2 (rowAt (ownTable own) row .a) then x ∷ y ∷ [] else []) (pushed out at)
+  unfolding pushAll
+  bounds-unmarked e = rw (← ea, ← g, e)
 
 -- ---- the last part of a row keeps the place
 module _ (out : List ℕ) (at : ℕ) {p : Pushed} (h : pushed out at ≡ p) where
@@ -88,7 +77,7 @@ module _ (out : List ℕ) (at : ℕ) {p : Pushed} (h : pushed out at ≡ p) wher
       go true false = tt
       go false d = tt
 
-  target-kept : (own : List ℕ) (room : ℕ) (t : Target) (i x : ℕ) → ReachedMove (targetGets own room t i x at) out p
+  target-kept : (own : List ℕ) (room : ℕ) (t : Target) (i x : ℕ) → ReachedMove (targetGets false own room t i x at) out p
   unfolding placeGets ReachedMove ReachedBy
   target-kept own room (To start len reduced) i x = go (ltb i len)
     where
@@ -121,10 +110,14 @@ module _ (out : List ℕ) (at : ℕ) {p : Pushed} (h : pushed out at ≡ p) wher
       go false d = tt
 
 -- ---- the numbers xs of an operand that comes to o, then those that go with its value
+lost-last : {A : Type 0} {o : Out A} {xs mid : List ℕ} {p : Pushed} {x : Answer} {z : Worked} → Lost o xs x mid p → z ≡ lostOf x
+    → ReachedMove z mid (pushAll xs p)
+unfolding ReachedMove
+lost-last h e = rw (e, h .is) (h .reached)
+
 module _ {A : Type 0} {o : Out A} {xs mid : List ℕ} {p : Pushed} (g : A → List ℕ) where
   lost-move : {x : Answer} {z : Worked} → Lost o xs x mid p → z ≡ lostOf x → ReachedMove z mid (pushAll (xs ++ given o g) p)
-  unfolding ReachedMove
-  lost-move h e = rw (e, h .is, lost-given h g, append-nil xs) (h .reached)
+  lost-move h e = rw (lost-given h g, append-nil xs) (lost-last h e)
 
   gave-move : {a : A} {i : ℕ} (z : Worked) (new : List ℕ) → Gave o a xs mid i p → ReachedMove z new (pushAll (g a) (pushed mid i))
       → ReachedMove z new (pushAll (xs ++ given o g) p)
@@ -171,11 +164,8 @@ module _ (own : List ℕ) (m : Machine) (cells held : List ℕ) (plain : Plain o
       (rw (row-numbers (lends own m cells) held (S stack) refl refl refl w n) at h)
 
   -- ---- row 34: x is what the pointer gave, y what the value gave
-  abbrev onValue : Ptr → ℕ → List ℕ
-  onValue q v = if heldReduced ks (q .array) then q .place ∷ [] else []
-
   abbrev onPointer : List ℕ → Ptr → List ℕ
-  onPointer stack q = nodeChoices (pairOf own) T ks (S stack) uint b ++ given (node [] T (S stack) uint b []) (onValue q)
+  onPointer stack q = nodeChoices (pairOf own) T ks (S stack) uint b
 
   module _ (x : Answer) (mid : List ℕ) (hx : Recorded pointer (lends own m cells) held 1024 a x mid (pushed before 0)) where
     pub store-no-place : {z : Worked} → OneOf (0 ∷ 1 ∷ 3 ∷ []) (tagOf answer x) → z ≡ lostOf x → RowRecords own m cells held store a b c z before mid
@@ -198,22 +188,18 @@ module _ (own : List ℕ) (m : Machine) (cells held : List ℕ) (plain : Plain o
       unfolding rowChoices
       store-no-value {z} t e = record {
         works = λ stack. store-second own stack [] m cells false a b c 0 x (hx .value) ex y said t e;
-        numbers = λ stack. gave-move (onPointer stack) z new (pointed-at stack)
-            (lost-move (onValue (ptr to place)) (lost-uint y new (pushed mid i) (as-node stack uint b hy) t) e);
+        numbers = λ stack. gave-move (onPointer stack) z new (pointed-at stack) (lost-last (lost-uint y new (pushed mid i) (as-node stack uint b hy) t) e);
       }
 
       -- t is what the pointer points to
-      pub store-recorded : (room : ℕ) (t : Target) (last : List ℕ) (n : ℕ) {z : Worked} {v j : ℕ} → length cells ≡ room → y ≡ AUint v j
-          → Points t (arrayOf (arraysOf (m .count) (m .firsts) (m .lengths) (m .shapes)) to)
-          → pushed last n ≡ pushAll (onValue (ptr to place) v) (pushed new j) → z ≡ targetGets own room t place v n
-          → RowRecords own m cells held store a b c z before last
+      pub store-recorded : (room : ℕ) (t : Target) {z : Worked} {v j : ℕ} → length cells ≡ room → y ≡ AUint v j
+          → Points t (arrayOf (arraysOf (m .count) (m .firsts) (m .lengths) (m .shapes)) to) → z ≡ targetGets false own room t place v j
+          → RowRecords own m cells held store a b c z before new
       unfolding rowChoices
-      store-recorded room t last n {z} {v} {j} fits ey pt h e = record {
-        works = λ stack. store-both own stack [] m cells false a b c 0 x (hx .value) ex y said ey
-            (works-by (works-anywhere (write (placesOf own) (S stack) (ptr to place) v) n j (target-writes own stack m cells [] fits t to place v n pt)) e);
-        numbers = λ stack. gave-move (onPointer stack) z last (pointed-at stack)
-            (gave-move (onValue (ptr to place)) z last (gave-uint y new (pushed mid i) (as-node stack uint b hy) ey)
-            (rw e (target-kept last n h own room t place v)));
+      store-recorded room t {z} {v} {j} fits ey pt e = record {
+        works = λ stack. store-both own stack [] m cells false a b c 0 x (hx .value) ex y said t fits ey pt e;
+        numbers = λ stack. gave-move (onPointer stack) z new (pointed-at stack)
+            (rw e (target-kept new j (gave-uint y new (pushed mid i) (as-node stack uint b hy) ey .reached) own room t place v));
       }
 
   -- ---- row 38: x is what the start gave, y what the end gave

@@ -4,7 +4,6 @@
 use crate::cycle::record_bool;
 use crate::cycle::record_pointer;
 use crate::cycle::record_uint;
-use crate::marks::is_held;
 use crate::marks::marked_uint;
 use crate::pushes::push;
 use evaluators::answers::Answer;
@@ -30,7 +29,6 @@ ghost use mathlib.Core.Path.{_≡_};
 ghost use Prim.Native.Nat.{ℕ, _<_, _≤_, _^_};
 ghost use mathlib.Core.List.{List, [], _∷_};
 ghost use Rattle.lists.specs.If.{if_then_else_};
-ghost use Rattle.model.specs.Writer.{heldReduced};
 ghost use lib.ListN.{length};
 ghost use Rattle.model.specs.Table.{rowAt, markedUint};
 ghost use Rattle.model.specs.Table.Row.{assign, store, loop, loopEnd};
@@ -38,7 +36,7 @@ ghost use Rattle.prepared.specs.Own.{declsOf, rowsOf, ownTable};
 ghost use Rattle.calls.specs.Stack.{depthOf};
 ghost use Rattle.machine.specs.CodeMoves.{columns, BoolsFit, Within, CallsFit, LoopFits, RepeatFits};
 ghost use Rattle.recording.specs.CodePushes.{pushed, pushAll};
-ghost use Rattle.recording.specs.CodeRecords.{Plain, heldOf};
+ghost use Rattle.recording.specs.CodeRecords.{Plain};
 ghost use Rattle.recording.specs.CodeMoves.{RowRecords, StepRecords};
 
 // Row 33.
@@ -72,19 +70,7 @@ fn record_assign<'a>(
     }
 }
 
-// The place of a write, where the reduced run holds the array reduced.
-fn record_place(out: &mut [u32], held: &[u8; 16], count: u32, to: u32, place: u32, at: usize) -> usize
-    requires { ⌜ count ≤ 16 ⌝ }
-    ensures { λ r. ⌜ pushed (now (out .exit)) r
-        ≡ pushAll (if heldReduced (heldOf count (now (held .entry))) to then place ∷ [] else []) (pushed (now (out .entry)) at) ⌝ }
-{
-    if is_held(held, count, to) {
-        return push(out, at, place);
-    }
-    at
-}
-
-// Row 34.
+// Row 34; the write itself has no number.
 fn record_store<'a>(
     a: usize,
     b: usize,
@@ -114,8 +100,7 @@ fn record_store<'a>(
     let Answer::Uint(v, last) = y else {
         return lost(y);
     };
-    let n = record_place(out, held, count, to, place, last);
-    target_gets(own, cells.len(), pointed(fs, ls, hs, count, to), place, v, n)
+    target_gets(false, own, cells.len(), pointed(fs, ls, hs, count, to), place, v, last)
 }
 
 // Start x and end y of the loop of a row, where its iterator is a marked uint.

@@ -5,7 +5,7 @@ use mathlib.Core.Path.{_≡_, refl, sym, ap, _∙_}
 use mathlib.Core.List.{List, [], _∷_}
 use mathlib.Core.Bool.{Bool, true, false}
 use lib.ListN.{length, drop, set}
-use lib.Dec.{ltb, eqb}
+use lib.Dec.{ltb}
 use borrow.Author.Tests.{ltb-true}
 use types.Run.{OneOf}
 use denote.Enum.Declared.{tagOf}
@@ -13,18 +13,17 @@ use Rattle.lists.specs.If.{if_then_else_}
 use Rattle.model.specs.Class.{class, tracked}
 use Rattle.model.specs.Table.{Ty}
 use Rattle.model.specs.Table.Ty.{uint, pointer}
-use Rattle.model.specs.Work.{Out, Work, next, give, wrong, fail, choose}
+use Rattle.model.specs.Work.{Out, Work, next, give, wrong, fail}
 use Rattle.model.specs.Work.Out.{gives, fails}
 use Rattle.model.specs.State.{Array, State}
-use Rattle.model.specs.Eval.{Of, Ptr, ptr, arrayOf, sizeOf}
-use Rattle.model.specs.Step.{Move, made, past, withCell, put, write, rowRule}
+use Rattle.model.specs.Eval.{Of, Ptr, ptr, arrayOf, sizeOf, keeps, indexOf}
+use Rattle.model.specs.Step.{Move, made, past, withCell, put, rowRule}
 use Rattle.model.specs.Step.Move.{to}
 use Rattle.prepared.specs.Own.{placesOf, ownTable}
 use Rattle.evaluators.proofs.answers.Answer.{the-type as answer}
 use Rattle.model.specs.Work.Reason.{pastLength}
 use Rattle.evaluators.specs.Reasons.{reasonOf}
 use Rattle.evaluators.specs.declared.answers.Reason.{Reason}
-use Rattle.evaluators.specs.declared.answers.Reason.the-variants.{WithoutArray, PastLength}
 use Rattle.evaluators.specs.declared.answers.Failure.the-variants.{Fails, Stuck}
 use Rattle.evaluators.specs.declared.answers.Answer.{Answer}
 use Rattle.evaluators.specs.declared.answers.Answer.the-variants.{Uint as AUint, Pointer as APointer}
@@ -38,9 +37,14 @@ use Rattle.machine.specs.declared.Move.the-variants.{Goes, Writes}
 use Rattle.machine.specs.declared.Worked.{Worked}
 use Rattle.machine.specs.declared.Worked.the-variants.{Moves, Not}
 use Rattle.machine.specs.View.{ownState}
-use Rattle.machine.specs.CodeMoves.{stateAfter, moveOut, CanDo, Works, RowWorks, storeRow, keptIn, storeIn, Stores}
+use Rattle.machine.specs.CodeMoves.{stateAfter, moveOut, CanDo, Works, RowWorks, storeRow}
 use Rattle.row_kinds.specs.CodeRows.{lostOf, cellGets, placeGets, trackedGets, targetGets}
 use Rattle.row_kinds.proofs.PutLaws.{othersOf, works-same, works-stuck, lost-works, state-passed, lends}
+
+-- what the model's `reducedWrite` (40) and `write` (34) do with the array r
+abbrev storeIn : Bool → List ℕ → State → ℕ → ℕ → Array → Work Move
+storeIn true ps s p x r = if ltb p (r .len) then (if keeps ps r p then put ps s r (indexOf ps r p) x else give (to (past s))) else fail pastLength
+storeIn false ps s p x r = if ltb p (r .len) then put ps s r p x else fail pastLength
 
 -- ---- what a row comes to
 module _ {own stack : List ℕ} {m : Machine} {cells l : List ℕ} where
@@ -56,6 +60,12 @@ module _ {own stack : List ℕ} {m : Machine} {cells l : List ℕ} where
   -- the same, said of what is equal
   pub works-by : {z y : Worked} {o : Out Move} → Works own stack m cells l z o → y ≡ z → Works own stack m cells l y o
   works-by h e = rw (sym e) at h
+
+  -- one of two, by a test
+  works-if : (b : Bool) {y z : Worked} (u w : Work Move) (cs : List ℕ) → Works own stack m cells l y (u cs) → Works own stack m cells l z (w cs)
+      → Works own stack m cells l (if b then y else z) ((if b then u else w) cs)
+  works-if true u w cs h g = h
+  works-if false u w cs h g = g
 
   -- x is what an operand gave, o what it gives by definition, and z what its row comes to
   pub row-uint : (x : Answer) {o : Out ℕ} {v n : ℕ} {z : Worked} (k : ℕ → Work Move) → Answers uint l x o → x ≡ AUint v n
@@ -95,103 +105,29 @@ module _ (own stack : List ℕ) (m : Machine) (cells l : List ℕ) {room : ℕ} 
       go true false e = works-stuck refl
       go false d e = works-stuck refl
 
-  -- by 34
-  pub place-works : (start len : ℕ) (reduced : Bool) (p x at : ℕ)
-      → Works own stack m cells l (placeGets own room start len reduced p x at) (storeIn false (placesOf own) state p x (made start len reduced) (drop at l))
-  unfolding placeGets
-  place-works start len reduced p x at = go (ltb p len)
-    where
-      go : (b : Bool) → Works own stack m cells l
-          (if b then cellGets room start (sizeOf (placesOf own) (made start len reduced)) p x at else Not (Fails PastLength) at)
-          ((if_then_else_ {A = Work Move} b (put (placesOf own) state (made start len reduced) p x) (fail pastLength)) (drop at l))
-      go true = cell-works (made start len reduced) p x at
-      go false = works-fails _ refl
+  -- place p of an array gets x, by 40 or by 34
+  place-works : (tracking : Bool) (start len : ℕ) (reduced : Bool) (p x at : ℕ)
+      → Works own stack m cells l (placeGets tracking own room start len reduced p x at)
+          (storeIn tracking (placesOf own) state p x (made start len reduced) (drop at l))
+  unfolding placeGets trackedGets
+  place-works true start len true p x at = works-if (ltb p len) _ _ _
+      (works-if (tracked (placesOf own) p) _ _ _ (cell-works (made start len true) (class (placesOf own) p) x at) (works-goes refl)) (works-fails _ refl)
+  place-works true start len false p x at = works-if (ltb p len) _ _ _ (cell-works (made start len false) p x at) (works-fails _ refl)
+  place-works false start len reduced p x at = works-if (ltb p len) _ _ _ (cell-works (made start len reduced) p x at) (works-fails _ refl)
 
-  pub target-works : (t : Target) (p x at : ℕ)
-      → Works own stack m cells l (targetGets own room t p x at) (next (targetOut t (drop at l)) (storeIn false (placesOf own) state p x))
+  target-works : (tracking : Bool) (t : Target) (p x at : ℕ)
+      → Works own stack m cells l (targetGets tracking own room t p x at) (next (targetOut t (drop at l)) (storeIn tracking (placesOf own) state p x))
   unfolding targetOut
-  target-works (To start len reduced) p x at = place-works start len reduced p x at
-  target-works Missing p x at = works-fails _ refl
-  target-works Unknown p x at = works-stuck refl
+  target-works tracking (To start len reduced) p x at = place-works tracking start len reduced p x at
+  target-works tracking Missing p x at = works-fails _ refl
+  target-works tracking Unknown p x at = works-stuck refl
 
   -- t is what a pointer to place p points to
-  pub target-writes : (t : Target) (r p x at : ℕ) → Points t (arrayOf (arraysOf (m .count) (m .firsts) (m .lengths) (m .shapes)) r)
-      → Works own stack m cells l (targetGets own room t p x at) (write (placesOf own) state (ptr r p) x (drop at l))
-  target-writes t r p x at e =
-      works-same (target-works t p x at) (ap (λ (o : Out Array). next o (storeIn false (placesOf own) state p x)) (e .found (drop at l)))
-
-  -- by 40, of a reduced array
-  pub tracked-works : (start len p x at : ℕ)
-      → Works own stack m cells l (trackedGets own room start len p x at) (keptIn (placesOf own) state x (made start len true) p (drop at l))
-  unfolding trackedGets
-  tracked-works start len p x at = go (ltb p len) (tracked (placesOf own) p)
-    where
-      at-class : ℕ
-      at-class = class (placesOf own) p
-
-      go : (b d : Bool) → Works own stack m cells l
-          (if b then (if d then cellGets room start (class (placesOf own) len) at-class x at else Moves Goes at) else Not (Fails PastLength) at)
-          ((if_then_else_ {A = Work Move} b (if d then put (placesOf own) state (made start len true) at-class x else give (to (past state))) (fail pastLength))
-          (drop at l))
-      go true true = cell-works (made start len true) at-class x at
-      go true false = works-goes refl
-      go false d = works-fails _ refl
-
--- ---- 34, or 40, as the functions give it: z is what one came to
-module _ (own l : List ℕ) (room : ℕ) where
-  abbrev ps : List ℕ
-  ps = placesOf own
-
-  -- y is the choice that 40 takes in the class k of its place
-  module _ (start len p x at : ℕ) {k : ℕ} (ek : k ≡ class ps p) (y : Answer) (py : Answers uint l y (choose (λ v. eqb (class ps v) k) (drop at l))) where
-    chosen-from : Answers uint l y (choose (λ v. eqb (class ps v) (class ps p)) (drop at l))
-    chosen-from = rw ek at py
-
-    pub chosen-none : {z : Worked} → OneOf (0 ∷ 2 ∷ 3 ∷ []) (tagOf answer y) → z ≡ lostOf y
-        → Stores own l room z (λ s. storeIn true ps s p x (made start len true) (drop at l))
-    chosen-none h e = record { stores = λ stack m cells f. row-lost uint y (keptIn ps (ownState own stack m cells) x (made start len true)) chosen-from h e }
-
-    pub chosen-place : {z : Worked} {q nx : ℕ} → y ≡ AUint q nx → z ≡ trackedGets own room start len q x nx
-        → Stores own l room z (λ s. storeIn true ps s p x (made start len true) (drop at l))
-    chosen-place {q = q} {nx} ey e = record {
-      stores = λ stack m cells f. row-uint y (keptIn ps (ownState own stack m cells) x (made start len true)) chosen-from ey
-          (works-by (tracked-works own stack m cells l f start len q x nx) e);
-    }
-
-  -- t is what the pointer points to
-  module _ (t : Target) (p x at : ℕ) where
-    abbrev Reduced : Worked → Type 0
-    Reduced z = Stores own l room z (λ s. next (targetOut t (drop at l)) (storeIn true ps s p x))
-
-    pub reduced-chosen : {start len : ℕ} {f : Bool} {z : Worked} → t ≡ To start len f → f ≡ true
-        → Stores own l room z (λ s. storeIn true ps s p x (made start len true) (drop at l)) → Reduced z
-    unfolding targetOut
-    reduced-chosen et ef h = rw (et, ef) h
-
-    pub reduced-plain : {start len : ℕ} {f : Bool} {z : Worked} → t ≡ To start len f → f ≡ false → z ≡ placeGets own room start len false p x at → Reduced z
-    unfolding targetOut
-    reduced-plain {start} {len} et ef e = rw (et, ef)
-        (record { stores = λ stack m cells f. works-by (place-works own stack m cells l f start len false p x at) e })
-
-    pub reduced-missing : t ≡ Missing → Reduced (Not (Fails WithoutArray) at)
-    unfolding targetOut
-    reduced-missing et = rw et (record { stores = λ stack m cells f. works-fails _ refl })
-
-    pub reduced-unknown : t ≡ Unknown → Reduced (Not Stuck at)
-    unfolding targetOut
-    reduced-unknown et = rw et (record { stores = λ stack m cells f. works-stuck refl })
-
-    -- with what the pointer points to worked out
-    module _ (rs : List Array) (r : ℕ) (pt : Points t (arrayOf rs r)) (tracking : Bool) where
-      abbrev Written : Worked → Type 0
-      Written z = Stores own l room z (λ s. next (arrayOf rs r (drop at l)) (storeIn tracking ps s p x))
-
-      pub written-40 : {z : Worked} → tracking ≡ true → Reduced z → Written z
-      written-40 e h = rw (← pt .found (drop at l), e) h
-
-      pub written-34 : {z : Worked} → tracking ≡ false → z ≡ targetGets own room t p x at → Written z
-      written-34 e ez = rw (← pt .found (drop at l), e)
-          (record { stores = λ stack m cells f. works-by (target-works own stack m cells l f t p x at) ez })
+  target-writes : (tracking : Bool) (t : Target) (r p x at : ℕ) → Points t (arrayOf (arraysOf (m .count) (m .firsts) (m .lengths) (m .shapes)) r)
+      → Works own stack m cells l (targetGets tracking own room t p x at)
+          (next (arrayOf (arraysOf (m .count) (m .firsts) (m .lengths) (m .shapes)) r (drop at l)) (storeIn tracking (placesOf own) state p x))
+  target-writes tracking t r p x at e =
+      works-same (target-works tracking t p x at) (ap (λ (o : Out Array). next o (storeIn tracking (placesOf own) state p x)) (e .found (drop at l)))
 
 -- ---- the row: y and z are what its operands gave, w what it came to
 module _ (own stack l : List ℕ) (m : Machine) (cells : List ℕ) (tracking : Bool) (a b c at : ℕ) where
@@ -218,6 +154,10 @@ module _ (own stack l : List ℕ) (m : Machine) (cells : List ℕ) (tracking : B
           → RowWorks own stack m cells l (storeRow tracking) a b c (drop at l) w
       store-second h e = works-same (row-pointer y (onPlace tracking) py ey (row-lost uint z (onBoth tracking (ptr r p)) pz h e)) (by-store tracking)
 
-      pub store-both : {w : Worked} {x last : ℕ} → z ≡ AUint x last → Works own stack m cells l w (onBoth tracking (ptr r p) x (drop last l))
+      -- t is what the pointer points to
+      pub store-both : {w : Worked} {x last room : ℕ} (t : Target) → length cells ≡ room → z ≡ AUint x last
+          → Points t (arrayOf (arraysOf (m .count) (m .firsts) (m .lengths) (m .shapes)) r) → w ≡ targetGets tracking own room t p x last
           → RowWorks own stack m cells l (storeRow tracking) a b c (drop at l) w
-      store-both ez h = works-same (row-pointer y (onPlace tracking) py ey (row-uint z (onBoth tracking (ptr r p)) pz ez h)) (by-store tracking)
+      store-both t fits ez pt e =
+          works-same (row-pointer y (onPlace tracking) py ey (row-uint z (onBoth tracking (ptr r p)) pz ez
+              (works-by (target-writes own stack m cells l fits tracking t r p _ _ pt) e))) (by-store tracking)

@@ -111,23 +111,23 @@ unfoldable pub cellGets : ℕ → ℕ → ℕ → ℕ → ℕ → ℕ → Worked
 cellGets room start size i x at =
     if ltb i size then (if ltb (start + i) room then Moves (Writes (start + i) x) at else Not Stuck at) else Not Stuck at
 
--- place p of an array gets x, by 34
-unfoldable pub placeGets : List ℕ → ℕ → ℕ → ℕ → Bool → ℕ → ℕ → ℕ → Worked
-placeGets own room start len reduced p x at =
-    if ltb p len then cellGets room start (sizeFor (placesOf own) len reduced) p x at else Not (Fails PastLength) at
-
--- ... by 40, of a reduced array (rule 3.18)
+-- place p of a reduced array, below the length, gets x by 40 (rule 3.18)
 unfoldable pub trackedGets : List ℕ → ℕ → ℕ → ℕ → ℕ → ℕ → ℕ → Worked
 trackedGets own room start len p x at =
+    if tracked (placesOf own) p then cellGets room start (class (placesOf own) len) (class (placesOf own) p) x at else Moves Goes at
+
+-- place p of an array gets x, by 40 or by 34 (rules 2.19, 3.17)
+unfoldable pub placeGets : Bool → List ℕ → ℕ → ℕ → ℕ → Bool → ℕ → ℕ → ℕ → Worked
+placeGets tracking own room start len reduced p x at =
     if ltb p len
-    then (if tracked (placesOf own) p then cellGets room start (class (placesOf own) len) (class (placesOf own) p) x at else Moves Goes at)
+    then (if tracking && reduced then trackedGets own room start len p x at else cellGets room start (sizeFor (placesOf own) len reduced) p x at)
     else Not (Fails PastLength) at
 
--- ... by 34, of the array that a pointer points to
-abbrev pub targetGets : List ℕ → ℕ → Target → ℕ → ℕ → ℕ → Worked
-targetGets own room (To start len reduced) p x at = placeGets own room start len reduced p x at
-targetGets own room Missing p x at = Not (Fails WithoutArray) at
-targetGets own room Unknown p x at = Not Stuck at
+-- ... of the array that a pointer points to
+abbrev pub targetGets : Bool → List ℕ → ℕ → Target → ℕ → ℕ → ℕ → Worked
+targetGets tracking own room (To start len reduced) p x at = placeGets tracking own room start len reduced p x at
+targetGets tracking own room Missing p x at = Not (Fails WithoutArray) at
+targetGets tracking own room Unknown p x at = Not Stuck at
 
 -- ---- 38, 42 and 39
 abbrev pub iterForm : Bool → ℕ

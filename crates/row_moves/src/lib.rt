@@ -9,9 +9,10 @@ use row_kinds::calling::called;
 use row_kinds::calling::returned;
 use row_kinds::values::assigned;
 use row_kinds::values::lost;
-use row_kinds::writes::written;
+use row_kinds::writes::target_gets;
 use evaluators::answers::Answer;
 use evaluators::answers::Failure;
+use evaluators::arrays::pointed;
 use node_cycle::bool_at;
 use node_cycle::pointer_at;
 use node_cycle::uint_at;
@@ -53,7 +54,7 @@ fn stored<'a>(
     let Answer::Uint(v, last) = y else {
         return lost(y);
     };
-    written(tracking, own, list, cells.len(), fs, ls, hs, count, to, place, v, last)
+    target_gets(tracking, own, cells.len(), pointed(fs, ls, hs, count, to), place, v, last)
 }
 
 // Row 38, or 42: its operands, then the loop.

@@ -1,6 +1,6 @@
-// Writes the choices of T (rule 8.9), and of a table of calls, for the pair 1, 3 into lists of every length from 0 to 31, lent full of sevens,
-// and prints for each the end, the row, the steps, how many numbers were written, parts of the record, the check number of the cells, which
-// were sevens too, and the list at exit.
+// Writes the choices of T (rule 8.9), of a table of calls and of T with a write that fails, for the pair 1, 3 into lists of every length from 0
+// to 31, lent full of sevens, and prints for each the end, the row, the steps, how many numbers were written, parts of the record, the check
+// number of the cells, which were sevens too, and the list at exit.
 use calls::DEPTH;
 use runs::Answered;
 use table::Verdict;
@@ -234,7 +234,11 @@ fn write_rooms(t: &[u32]) {
     }
 }
 
+// The last table is T with 5 for the end of its walk, one circuit too far: the write there fails.
 fn main() {
     write_rooms(&T);
     write_rooms(&CALLS);
+    let mut far = T;
+    far[17] = 5;
+    write_rooms(&far);
 }

@@ -24,11 +24,13 @@ returns-2 c row «open» k stack rows starts ends =
 
 returns-3 : tie.Need-returns-3
 returns-3 c row «open» k stack rows starts ends =
-    let g = c .before .before .before .before .before .before .before .before .before .before .before .args in
+    let g = c .before .before .before .before .before .before .before .before .before .before .before .before .args in
     let m = columns row (g .ns .now) (g .bs .now) «open» rows starts ends (g .count) (g .fs .now) (g .ls .now) (g .hs .now) in
     store-both (g .own .now) stack (g .list .now) m (g .cells .now) (g .tracking) (g .a) (g .b) k (g .at) _
-    (c .before .before .before .before .before .before .before .before .pointer-at .ensures) (c .before .before .before .before .before .before .x .given .1) _
-    (c .before .before .before .before .uint-at .ensures) (c .before .before .y .given .1) (c .written .ensures .stores stack m (g .cells .now) refl)
+    (c .before .before .before .before .before .before .before .before .before .pointer-at .ensures)
+    (c .before .before .before .before .before .before .before .x .given .1) _
+    (c .before .before .before .before .before .uint-at .ensures) _ refl (c .before .before .before .y .given .1) (c .before .pointed .ensures)
+    (c .target-gets .ensures)
 
 pub stored-spec : {M : Type 1} → statement M
 stored-spec =
@@ -42,5 +44,6 @@ stored-spec =
     (λ c. search needs)
     (λ c κs. search needs)
     returns-2
+    (λ c κs. search needs)
     (λ c κs. search needs)
     returns-3)

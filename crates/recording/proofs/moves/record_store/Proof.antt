@@ -1,4 +1,4 @@
--- By what the operands gave: p, q and r are the places after the pointer, the value and the place of the write.
+-- By what the operands gave: p and q are the places after the pointer and the value.
 -- Assumes nothing.
 use mathlib.Core.Path.{refl}
 use Rattle.machine.specs.CodeMoves.{columns}
@@ -28,15 +28,14 @@ returns-2 c row «open» k rows starts ends =
 
 returns-3 : tie.Need-returns-3
 returns-3 c row «open» k rows starts ends =
-    let r = c .before .before .before .before in
-    let q = r .before .before .before .before .before .before .before in
+    let r = c .before .before .before in
+    let q = r .before .before .before .before in
     let p = q .before .before .before .before .before .before .before in
     let s = p .before .before .before .before in
     let g = s .args in
     let m = columns row (g .ns .now) (g .bs .now) «open» rows starts ends (g .count) (g .fs .now) (g .ls .now) (g .hs .now) in
     store-recorded (g .own .now) m (g .cells .now) (g .held .now) (s .pre .2) (g .a) (g .b) k _ _ _ (p .record-pointer .ensures)
-    (q .before .before .before .x .given .1) _ _ (q .record-uint .ensures) _ _ _ _ refl (r .before .before .before .y .given .1) (c .before .pointed .ensures)
-    (r .record-place .ensures) (c .target-gets .ensures)
+    (q .before .before .before .x .given .1) _ _ (q .record-uint .ensures) _ _ refl (r .y .given .1) (c .before .pointed .ensures) (c .target-gets .ensures)
 
 pub record-store-spec : {M : Type 1} → statement M
 record-store-spec =
@@ -52,7 +51,6 @@ record-store-spec =
     (λ c κs. search needs)
     (λ c. search needs)
     returns-2
-    (λ c κs. search needs)
     (λ c κs. search needs)
     (λ c κs. search needs)
     (λ c. search needs)
