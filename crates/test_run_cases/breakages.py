@@ -572,6 +572,10 @@ broken(
     ),
     continued=True,
 )
+RAN = "            end, steps, state = run.run(start, limit)\n"
+broken("2.45", "a continued run has the list from its front", ("            choices = choices[run.used :]\n", ""), continued=True, kinds={27, 28, 42})
+broken("2.45", "a continued run that is done counts a step", (RAN, RAN + "            steps += k > 0 and end == 'done'\n"), continued=True)
+broken("2.45", "continued for 0 steps a run takes one", (RAN, RAN.replace("limit)", "limit or min(k, 1))")), continued=True)
 broken(
     "2.33",
     "a continued run begins at row 0",

@@ -2,10 +2,11 @@
 """Writes stdin and stdout of this program: cases of runs, each after its length, and the line that must be printed of each run.
 
 A case is little-endian words: the machine (0 plain, 1 reduced), c1, c2, how many cells are lent, how many words the table has, how many
-numbers the list has, how often the first run is done; the table (for the reduced machine the reduced one); the list; then the runs until
-the case ends, each a limit, a number of edits, and for each edit field (numbered as ROW to STACK below), slot, value. All cells are 7 at
-first. The first run is fresh. A later one continues with the record of the last run that was not refused, the cells as they are, and the
-choices not yet used. Its edits change that record, or the cells, before it runs; a refused run leaves the record as it was before them.
+numbers the list has, how often the first run is done, or 0 for once with every run of the case cut; the table (for the reduced machine the
+reduced one); the list; then the runs until the case ends, each a limit, a number of edits, and for each edit field (numbered as ROW to STACK
+below), slot, value. All cells are 7 at first. The first run is fresh. A later one continues with the record of the last run that was not
+refused, the cells as they are, and the choices not yet used. Its edits change that record, or the cells, before it runs; a refused run
+leaves the record as it was before them.
 
 The callers stand in a stack of 241 words, field STACK: 30 words for each of eight, the one in main first, with its row, how many loops are
 open, four locals, and the rows, starts and ends of eight loops. How many callers there are, the last word, is the field DEPTH.
@@ -15,6 +16,12 @@ of the record's parts in use (record_check). These are, in order: the row; how m
 and end; of each variable its number, and of a pointer the number of its array after it; how many arrays there are, and of each its first
 cell, length and 1 if it is reduced, else 0; how many callers there are, and of each, the one in main first, its row, the numbers of its
 locals, how many loops are open, and of each of these row, start and end.
+
+Runs are cut in all cases here. Then the line of one that is not refused ends with how many cuts leave it what it is: the program runs it
+again in parts, each of which goes on with the record, the cells and the choices that the one before it left, and the parts must have the
+end, the record and the cells of the whole run, and its steps and choices between them. A run is cut after each number of steps, 0 to one more
+than it took, or to its limit where that is less; and after each of them once more, after every number of further steps up to the last where
+the last is at most ALL_PAIRS, else half-way to the last. A second cut after no further step goes on for 0.
 
 The lines come from the interpreter below, which is written from the rules (docs/RULES.md). It takes tables that pass: the number and line
 of a refused table are given with the case. The examples of section 8 of the rules are held to what it says of them.
@@ -31,6 +38,7 @@ BOOL, UINT, POINTER = 1, 2, 3
 SUM, DIFFERENCE, NO_ARRAY, PAST, COUNTER = range(1, 6)  # the reasons of a failure
 ROW, OPEN, LOOP_ROW, START, END, NUMBER, BASE, COUNT, FIRST, LENGTH, SHAPE, CELL, DEPTH, STACK = range(14)
 MOST_CALLERS = 8
+ALL_PAIRS = 9  # where the last cut of a run is at most here, all pairs of cuts are tried
 
 
 # Tables
@@ -453,6 +461,13 @@ def holds_empty(run, state):
 CASES = []  # bytes, lines
 
 
+def cuts_of(limit, steps):
+    """How many cuts the program tries of a run, each of which must leave it as it is."""
+    last = min(limit, steps + 1)
+    firsts = last + 1
+    return firsts + (firsts * (firsts + 1) // 2 if last <= ALL_PAIRS else firsts)
+
+
 def lines_of(machine, table, pair, lent, choices, runs, refusal, reached=None):
     """What is printed of each run; the refusal of a table is given. The last states are put into a list, if one is given."""
     reached = [] if reached is None else reached
@@ -487,7 +502,8 @@ def lines_of(machine, table, pair, lent, choices, runs, refusal, reached=None):
             reached.append((run, state))
             choices = choices[run.used :]
             line = "%s row %d steps %d choices %d record %d" % (end, state.row, steps, run.used, record_check(table, state))
-        out.append("%s cells %d" % (line, check_number(cells)))
+        cuts = "" if checked else " cuts %d" % cuts_of(limit, steps)
+        out.append("%s cells %d%s" % (line, check_number(cells), cuts))
     return out
 
 
@@ -533,7 +549,7 @@ def case(machine, lines, runs, pair=(1, 3), choices=(), lent=None, refusal=None,
     runs = [run if isinstance(run, tuple) else (run, []) for run in runs]
     lent = CELLS[machine] if lent is None else lent
     words = [w for line in lines for w in line] if words is None else words
-    data = [machine, *pair, lent, len(words), len(choices), 1, *words, *choices]
+    data = [machine, *pair, lent, len(words), len(choices), 0, *words, *choices]
     for limit, edits in runs:
         data += [limit, len(edits), *(w for edit in edits for w in edit)]
     reached = []
@@ -578,7 +594,7 @@ def written(lines, pair, limit):
 def fields(line):
     """A printed run, but for its counts."""
     parts = line.split()
-    return [w for i, w in enumerate(parts) if i < 2 or parts[i - 1] not in ("steps", "choices")]
+    return [w for i, w in enumerate(parts) if i < 2 or parts[i - 1] not in ("steps", "choices", "cuts")]
 
 
 def count(line, name):

@@ -17,10 +17,10 @@ use Rattle.model.specs.Table.Row.{skip, assign, store, assert, assume, array, l
 use Rattle.model.specs.Table.Row.{procedure, returns, call, noRow}
 use Rattle.model.specs.Writer.{heldAfter, heldNext}
 use Rattle.model.proofs.KindsIn.{PlainRow}
+use Rattle.model.proofs.StepSizes.{arraysAfter, arraysNext}
 use Rattle.prepared.specs.Own.{ownTable}
 use Rattle.recording.specs.CodeRecords.{heldOf}
 use Rattle.choices.specs.CodeSteps.{flagOf, heldWith}
-use Rattle.choices.proofs.ArrayLaws.{arraysAfter, arraysNext}
 
 -- ---- the flag of a row's variable, by its mark
 module _ (own : List ℕ) (row : ℕ) {a : ℕ} {b : Bool} (e : a ≡ rowAt (ownTable own) row .a) (h : b ≡ marked own 3 a) where

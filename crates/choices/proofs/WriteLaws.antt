@@ -22,6 +22,7 @@ use Rattle.model.specs.Step.End.{done, outOfSteps, listFull}
 use Rattle.model.specs.Step.Move.{to}
 use Rattle.model.specs.Step.Report.{ended, noEnd}
 use Rattle.model.specs.Writer.{heldNext, stepChoices, withNumbers, writer, writes}
+use Rattle.model.proofs.StepSizes.{arraysNext, step-arrays}
 use Rattle.line_checks.specs.Rules.{depth, mostDepth}
 use Rattle.prepared.specs.declared.Frame.{Frame}
 use Rattle.prepared.specs.View.{places, kindOf, tableFor}
@@ -52,7 +53,6 @@ use Rattle.runs.proofs.ReadyLaws.{state-same, step-same, step-bounds}
 use Rattle.runs.proofs.CallingLaws.{table-going}
 use Rattle.writing.specs.CodeWriting.{countOf, stoppedOf}
 use Rattle.choices.specs.CodeSteps.{Begins, heldWith, WriterWrites}
-use Rattle.choices.proofs.ArrayLaws.{arraysNext, step-arrays}
 use Rattle.choices.proofs.BoundLaws.{step-most}
 use Rattle.choices.proofs.HeldLaws.{held-next, held-length}
 use Rattle.choices.proofs.CopyLaws.{HasReason, same, copy-plain, copy-row, only-fails, reached, writer-own}

@@ -8,5 +8,6 @@ pub mod NeighboursProof
 pub mod IteratorsProof
 pub mod ProceduresProof
 pub mod FalseAlarmsProof
+pub mod StoppingAndGoingOnProof
 pub mod Demand3Proof
 pub mod ExampleProof

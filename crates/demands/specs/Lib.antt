@@ -8,5 +8,6 @@ pub mod Neighbours
 pub mod Iterators
 pub mod Procedures
 pub mod FalseAlarms
+pub mod StoppingAndGoingOn
 pub mod Demand3
 pub mod Examples

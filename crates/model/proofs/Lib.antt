@@ -39,3 +39,6 @@ pub mod Demand3Proof
 -- which reasons a node and a row can have, and where a reduced write fails
 pub mod ReasonLaws
 pub mod TruePlaceLaws
+-- what a step leaves, and runs in parts
+pub mod StepSizes
+pub mod PartLaws

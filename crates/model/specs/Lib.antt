@@ -17,3 +17,4 @@ pub mod IdleLocals
 pub mod MainEnd
 pub mod Reasons
 pub mod TruePlace
+pub mod RunsInParts

@@ -1,8 +1,12 @@
 // Runs cases of tables from standard input, each after its length: a fresh run of a machine and the runs that continue it. It prints a
-// line for each run, with check numbers of the record and of the cells. make_cases.py says how a case is laid out.
+// line for each run, with check numbers of the record and of the cells, and where the case asks for it how many cuts leave the run what it
+// is. make_cases.py says how a case is laid out.
+mod cuts; // cuts.rt: a run in parts
+
 use calls::CALLER;
 use calls::DEPTH;
 use calls::STACK;
+use cuts::Whole;
 use lists::word_or_zero;
 use machine::Machine;
 use machine::Record;
@@ -24,12 +28,13 @@ const CELLS: usize = 4200;
 
 const HEAD: usize = 7;
 
-// What the head of a case says of its runs: the machine, the pair, and how often the first run is done.
+// What the head of a case says of its runs: the machine, the pair, how often the first run is done, and whether they are cut.
 struct Asked {
     reduced: bool,
     c1: u32,
     c2: u32,
     times: u32,
+    cut: bool,
 }
 
 // What a run leaves to the next one.
@@ -201,7 +206,6 @@ fn print_answer(a: Answered, t: &[u32], cells: &[u32]) {
         }
     }
     print_part(b" cells ", check_of(cells) as u64);
-    io::write_all(1, b"\n");
 }
 
 // Edits of a record and of the cells
@@ -346,7 +350,16 @@ fn first_run(q: Asked, t: &[u32], cells: &mut [u32], list: &[u32], limit: u32) -
     fresh_run(q, t, cells, list, limit)
 }
 
-// A run of a case, with its limit and its edits.
+// The record that a run starts with: a later one starts with the last one changed by its edits, which change the cells too.
+fn started(first: bool, r: Record, cells: &mut [u32], edits: &[u32]) -> Record {
+    if first {
+        return r;
+    }
+    edit_cells(cells, edits);
+    edited(r, edits)
+}
+
+// A run of a case, with its limit.
 fn one_run(
     q: Asked,
     first: bool,
@@ -355,13 +368,11 @@ fn one_run(
     cells: &mut [u32],
     list: &[u32],
     limit: u32,
-    edits: &[u32],
 ) -> Answered {
     if first {
         return first_run(q, t, cells, list, limit);
     }
-    edit_cells(cells, edits);
-    continued_run(q, edited(r, edits), t, cells, list, limit)
+    continued_run(q, r, t, cells, list, limit)
 }
 
 // What to continue with: the record of the run and how many choices it used, or after a refusal the record before it and none.
@@ -381,7 +392,51 @@ fn kept_of(a: Answered, before: Record) -> Kept {
     }
 }
 
-// A run of a case and its line.
+// Prints how many cuts leave a run what it is, where that is asked and it was not refused.
+fn print_cuts(w: Whole, t: &[u32], list: &[u32], before: &[u32], after: &[u32], spare: &mut [u32]) {
+    let q = w.asked;
+    if !q.cut {
+        return;
+    }
+    let a = w.answered;
+    let v = a.verdict;
+    if let Verdict::Passes = v {
+        print_part(b" cuts ", cuts::cuts(w, t, list, before, after, spare));
+    }
+}
+
+// The line of a run.
+fn print_line(w: Whole, t: &[u32], list: &[u32], before: &[u32], after: &[u32], spare: &mut [u32]) {
+    print_answer(w.answered, t, after);
+    print_cuts(w, t, list, before, after, spare);
+    io::write_all(1, b"\n");
+}
+
+// A run of a case; the cells with which it starts are kept.
+fn whole_run(
+    q: Asked,
+    first: bool,
+    r: Record,
+    t: &[u32],
+    cells: &mut [u32],
+    list: &[u32],
+    limit: u32,
+    edits: &[u32],
+    before: &mut [u32],
+) -> Whole {
+    let start = started(first, r, cells, edits);
+    cuts::replace(before, cells);
+    let answered = one_run(q, first, start, t, cells, list, limit);
+    Whole {
+        asked: q,
+        first,
+        start,
+        limit,
+        answered,
+    }
+}
+
+// A run of a case and its line. Two more buffers are lent, as long as the cells.
 fn printed_run(
     q: Asked,
     first: bool,
@@ -391,14 +446,24 @@ fn printed_run(
     list: &[u32],
     limit: u32,
     edits: &[u32],
+    before: &mut [u32],
+    spare: &mut [u32],
 ) -> Kept {
-    let a = one_run(q, first, r, t, cells, list, limit, edits);
-    print_answer(a, t, cells);
-    kept_of(a, r)
+    let w = whole_run(q, first, r, t, cells, list, limit, edits, before);
+    print_line(w, t, list, before, cells, spare);
+    kept_of(w.answered, r)
 }
 
 // The runs of a case, until its words end; none uses more choices than are left.
-fn all_runs(q: Asked, t: &[u32], cells: &mut [u32], list: &[u32], runs: &[u32]) {
+fn all_runs(
+    q: Asked,
+    t: &[u32],
+    cells: &mut [u32],
+    list: &[u32],
+    runs: &[u32],
+    before: &mut [u32],
+    spare: &mut [u32],
+) {
     let mut r = Record::blank();
     let mut left = &list[..];
     let mut rest = &runs[..];
@@ -408,7 +473,18 @@ fn all_runs(q: Asked, t: &[u32], cells: &mut [u32], list: &[u32], runs: &[u32]) 
         if rest.len() < n {
             return;
         }
-        let k = printed_run(q, first, r, t, cells, left, rest[0], &rest[2..n]);
+        let k = printed_run(
+            q,
+            first,
+            r,
+            t,
+            cells,
+            left,
+            rest[0],
+            &rest[2..n],
+            before,
+            spare,
+        );
         r = k.record;
         let used = k.used;
         if left.len() < used {
@@ -441,14 +517,19 @@ fn run_case(w: &[u32]) -> bool {
         c1: w[1],
         c2: w[2],
         times: w[6],
+        cut: w[6] == 0,
     };
     let mut lent = [7u32; CELLS];
+    let mut before = [0u32; CELLS];
+    let mut spare = [0u32; CELLS];
     all_runs(
         q,
         &w[HEAD..list],
         &mut lent[..cells],
         &w[list..runs],
         &w[runs..],
+        &mut before[..cells],
+        &mut spare[..cells],
     );
     true
 }

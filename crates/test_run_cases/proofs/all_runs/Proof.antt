@@ -1,4 +1,4 @@
--- The cells keep their number, and the choices left take fewer bytes than a slice may; the measure is what is left of the runs.
+-- The cells and both buffers keep their number, and the choices left take fewer bytes than a slice may; the measure is what is left of the runs.
 -- Assumes nothing.
 use borrow.Author.Needs.{needs}
 use Prim.Native.Nat.{_*_, _<_, _^_}
@@ -8,11 +8,11 @@ use Rattle.test_run_cases.proofs.all_runs.Statement.{statement}
 use Rattle.test_run_cases.proofs.all_runs.Tie as tie
 
 abbrev Inv-loop : tie.InvT-loop
-Inv-loop q t cells₀ list runs r₀ left₀ rest₀ first₀ cells r left rest first =
-    (length cells ≡ length cells₀) × (length left * 4 < 2 ^ 63)
+Inv-loop q t cells₀ list runs before₀ spare₀ r₀ left₀ rest₀ first₀ cells before spare r left rest first =
+    (length cells ≡ length cells₀) × (length before ≡ length before₀) × (length spare ≡ length spare₀) × (length left * 4 < 2 ^ 63)
 
 abbrev μ-loop : tie.MeasureT-loop
-μ-loop q t cells₀ list runs r₀ left₀ rest₀ first₀ cells r left rest first = length rest
+μ-loop q t cells₀ list runs before₀ spare₀ r₀ left₀ rest₀ first₀ cells before spare r left rest first = length rest
 
 pub all-runs-spec : {M : Type 1} → statement M
 all-runs-spec =
@@ -32,7 +32,13 @@ all-runs-spec =
     (λ c. search needs)
     (λ c. search needs)
     (λ c. search needs)
+    (λ c. search needs)
+    (λ c. search needs)
     (λ c κs. search needs)
+    (λ c. search needs)
+    (λ c. search needs)
+    (λ c. search needs)
+    (λ c. search needs)
     (λ c. search needs)
     (λ c. search needs)
     (λ c. search needs)
