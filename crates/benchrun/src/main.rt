@@ -12,6 +12,8 @@
 //   8  the bytes of a file, for a plain run of its table
 // An answer is a head of eight words and what is asked for. Of 0, 1 and 2 the head is a refusal's number and place, or 0, and how many lines
 // or bytes there are; of the others it is what `wire` says. After a run stand its record and the first W cells.
+#![tactic(auto)]
+
 mod record_words; // record_words.rt: a record as words
 
 ghost use Rattle.std.specs.Prelude.{◌≤◌};

@@ -2,6 +2,8 @@
 // a table's words, the room L of the list, and two that are not read, and then the T words. The answer goes to standard output with no length:
 // the head that `wire` says, and the numbers written. A message that does not fit is not answered.
 // The list is on the stack, so the one who starts the program raises the limit of the stack first.
+#![tactic(auto)]
+
 use lists::word_or_zero;
 use machine::Machine;
 use runs::Answered;

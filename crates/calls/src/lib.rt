@@ -1,5 +1,7 @@
 // Calls and returns, on the words that are lent: a caller is put aside on the stack and taken back, and the locals are handed over.
 // All of it is for our crates above, which see to what is required here.
+#![tactic(auto)]
+
 mod locals; // locals.rt: the locals of what is at work
 mod words; // words.rt: the words of a caller
 

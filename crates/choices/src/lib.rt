@@ -1,5 +1,7 @@
 // The choice writer: it runs a plain table fresh and writes, for a pair of places, the choices under which the run of the reduced table
 // ends the same way, unless the plain run ends for want of cells or the list is full.
+#![tactic(auto)]
+
 mod marks;
 mod steps;
 

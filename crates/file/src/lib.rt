@@ -1,4 +1,6 @@
 // Program files: the reader, which takes any bytes, and the writer, which takes any table.
+#![tactic(auto)]
+
 mod blocks;
 mod checks;
 mod fill;

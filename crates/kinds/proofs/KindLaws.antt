@@ -13,7 +13,7 @@ use Rattle.model.specs.Table.{node_kind, row_kind, Roles, roles, node_roles, row
 use Rattle.model.specs.Table.Role.{unused}
 use Rattle.model.proofs.ReduceLaws.{no-node, no-row}
 use Rattle.kinds.specs.Kinds.{roles_of}
-use Rattle.kinds.specs.Code.{entries, role_number, typing, result, marking, nest}
+use Rattle.kinds.specs.Code.{entries, role_number, typing, resulting, marking, nest}
 
 -- a digit of each entry is right at each kind, where what is right past them is 0
 by_kind : (digit f : ℕ → ℕ) → all 46 (λ k. eqb (digit (get_or entries k 0)) (f k)) ≡ true → digit 0 ≡ 0 → ((k : ℕ) → 46 ≤ k → f k ≡ 0) → (k : ℕ)
@@ -38,8 +38,8 @@ module _ (k : ℕ) (past : 46 ≤ k) where
   unfolding typing
   past-typing = rw (le-leb 16 k (omega arith), le-ltb k 32 (omega arith), no-row k past)
 
-  past-result : result k ≡ 0
-  unfolding result
+  past-result : resulting k ≡ 0
+  unfolding resulting
   past-result = rw (no-node k past)
 
   past-marking : marking k ≡ 0
@@ -68,9 +68,9 @@ pub typing-at : (k : ℕ) → get_or entries k 0 / 4096 % 16 ≡ typing k
 unfolding entries all typing node_kind row_kind
 typing-at k = by_kind (λ e. e / 4096 % 16) (λ k. typing k) refl refl past-typing k
 
-pub result-at : (k : ℕ) → get_or entries k 0 / 256 % 16 ≡ result k
-unfolding entries all result node_kind
-result-at k = by_kind (λ e. e / 256 % 16) (λ k. result k) refl refl past-result k
+pub result-at : (k : ℕ) → get_or entries k 0 / 256 % 16 ≡ resulting k
+unfolding entries all resulting node_kind
+result-at k = by_kind (λ e. e / 256 % 16) (λ k. resulting k) refl refl past-result k
 
 pub marking-at : (k : ℕ) → get_or entries k 0 / 16 % 16 ≡ marking k
 unfolding entries all marking node_kind row_kind

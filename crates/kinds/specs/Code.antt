@@ -108,8 +108,8 @@ node_result reduced_cell = 1
 node_result reduced_valid = 0
 node_result no_node = 0
 
-unfoldable pub result : ℕ → ℕ
-result k = node_result (node_kind k)
+unfoldable pub resulting : ℕ → ℕ
+resulting k = node_result (node_kind k)
 
 abbrev pub result_by : ℕ → ℕ → ℕ → ℕ → ℕ
 result_by k v a b = if eqb k 1 then 2 else (if eqb k 2 then v else (if eqb k 3 then a else (if eqb k 4 then b else 1)))

@@ -1,11 +1,13 @@
 // What each kind of line asks of it, as numbers: a table by kind, the tests that its numbers name, and what the checks count and look up.
 // All of it is for our crates above.
+#![tactic(auto)]
+
 ghost use Rattle.std.specs.Prelude.{◌≡◌, ◌+◌, ◌^◌, ◌<◌, ◌≤◌, get_or};
 ghost use Rattle.lists.specs.If.{if◌then◌else◌};
 ghost use Rattle.model.specs.Table.{marked, opens_procedure, row_kind};
 ghost use Rattle.model.specs.Accepted.{known};
 ghost use Rattle.kinds.specs.Kinds.{machine_of, sort_number, roles_of};
-ghost use Rattle.kinds.specs.Code.{entries, role_number, suits_by, there_by, typing, typed_by, result, result_by, marking, suits_mark, nest, open_after};
+ghost use Rattle.kinds.specs.Code.{entries, role_number, suits_by, there_by, typing, typed_by, resulting, result_by, marking, suits_mark, nest, open_after};
 
 use lists::word_or_zero;
 
@@ -63,58 +65,58 @@ const OPENS: u32 = 1;
 const CLOSES: u32 = 2;
 
 fn entry_of(kind: u32) -> u32
-    ensures* { λ r. ⌜ r ≡ get_or entries kind 0 ⌝ }
+    ensures { result ≡ get_or entries kind 0 }
 {
     let k = kind as usize;
     if k < KINDS { ENTRIES[k] } else { 0 }
 }
 
 pub fn role_a(kind: u32) -> u32
-    ensures* { λ r. ⌜ r ≡ role_number (roles_of kind).a ⌝ }
+    ensures { result ≡ role_number (roles_of kind).a }
 {
     entry_of(kind) / 0x1000000 % 16
 }
 
 pub fn role_b(kind: u32) -> u32
-    ensures* { λ r. ⌜ r ≡ role_number (roles_of kind).b ⌝ }
+    ensures { result ≡ role_number (roles_of kind).b }
 {
     entry_of(kind) / 0x100000 % 16
 }
 
 pub fn role_c(kind: u32) -> u32
-    ensures* { λ r. ⌜ r ≡ role_number (roles_of kind).c ⌝ }
+    ensures { result ≡ role_number (roles_of kind).c }
 {
     entry_of(kind) / 0x10000 % 16
 }
 
 pub fn typing_of(kind: u32) -> u32
-    ensures* { λ r. ⌜ r ≡ typing kind ⌝ }
+    ensures { result ≡ typing kind }
 {
     entry_of(kind) / 0x1000 % 16
 }
 
 pub fn result_of(kind: u32) -> u32
-    ensures* { λ r. ⌜ r ≡ result kind ⌝ }
+    ensures { result ≡ resulting kind }
 {
     entry_of(kind) / 0x100 % 16
 }
 
 pub fn marking_of(kind: u32) -> u32
-    ensures* { λ r. ⌜ r ≡ marking kind ⌝ }
+    ensures { result ≡ marking kind }
 {
     entry_of(kind) / 0x10 % 16
 }
 
 // 1 for a row that opens a loop, 2 for one that closes it, 0 for any other line.
 pub fn nest_of(kind: u32) -> u32
-    ensures* { λ r. ⌜ r ≡ nest kind ⌝ }
+    ensures { result ≡ nest kind }
 {
     entry_of(kind) % 16
 }
 
 // Whether a plain or a reduced table may have the kind.
 pub fn is_known(reduced: bool, k: u32) -> bool
-    ensures* { λ r. ⌜ r ≡ known (machine_of reduced) k ⌝ }
+    ensures { result ≡ known (machine_of reduced) k }
 {
     if reduced {
         return (((1 <= k) & (k <= 3)) | ((16 <= k) & (k <= 29)) | ((32 <= k) & (k <= 45)))
@@ -128,7 +130,7 @@ pub fn is_known(reduced: bool, k: u32) -> bool
 
 // 0 a declaration, 1 a node, 2 a row.
 pub fn sort_of(k: u32) -> u32
-    ensures* { λ r. ⌜ r ≡ sort_number k ⌝ }
+    ensures { result ≡ sort_number k }
 {
     if k < 16 {
         return 0;
@@ -141,14 +143,14 @@ pub fn sort_of(k: u32) -> u32
 
 // An unused operand is 0, a flag at most 1.
 pub fn suits(role: u32, x: u32) -> bool
-    ensures* { λ r. ⌜ r ≡ suits_by role x ⌝ }
+    ensures { result ≡ suits_by role x }
 {
     ((role != 0) | (x == 0)) & ((role != 1) | (x <= 1))
 }
 
 // A variable is one of `vars`, a node is below `bound`.
 pub fn is_there(role: u32, vars: usize, bound: usize, x: u32) -> bool
-    ensures* { λ r. ⌜ r ≡ there_by role vars bound x ⌝ }
+    ensures { result ≡ there_by role vars bound x }
 {
     let i = x as usize;
     ((role != 3) | (i < vars)) & ((role != 4) | (i < bound))
@@ -156,7 +158,7 @@ pub fn is_there(role: u32, vars: usize, bound: usize, x: u32) -> bool
 
 // Whether the types of the variables a (v) and c (u) and of the nodes a, b and c are as the kind asks. The locals of 43 are not among them.
 pub fn is_typed(typing: u32, v: u32, u: u32, a: u32, b: u32, c: u32) -> bool
-    ensures* { λ r. ⌜ r ≡ typed_by typing v u a b c ⌝ }
+    ensures { result ≡ typed_by typing v u a b c }
 {
     match typing {
         1 => true,
@@ -177,7 +179,7 @@ pub fn is_typed(typing: u32, v: u32, u: u32, a: u32, b: u32, c: u32) -> bool
 
 // The type that a node gives, from the types of the variable a (v) and of the nodes a and b.
 pub fn result_type(res: u32, v: u32, a: u32, b: u32) -> u32
-    ensures* { λ r. ⌜ r ≡ result_by res v a b ⌝ }
+    ensures { result ≡ result_by res v a b }
 {
     if res == 1 {
         return 2;
@@ -196,7 +198,7 @@ pub fn result_type(res: u32, v: u32, a: u32, b: u32) -> u32
 
 // Whether the variable's mark suits the kind: it is a marked uint (u), or a marked pointer (p).
 pub fn suits_mark(marking: u32, reduced: bool, u: bool, p: bool) -> bool
-    ensures* { λ r. ⌜ r ≡ suits_mark marking reduced u p ⌝ }
+    ensures { result ≡ suits_mark marking reduced u p }
 {
     match marking {
         1 => !(reduced & u),
@@ -210,14 +212,14 @@ pub fn suits_mark(marking: u32, reduced: bool, u: bool, p: bool) -> bool
 
 // Whether a line opens a procedure.
 pub fn opens_procedure(kind: u32) -> bool
-    ensures* { λ r. ⌜ r ≡ opens_procedure (row_kind kind) ⌝ }
+    ensures { result ≡ opens_procedure (row_kind kind) }
 {
     kind == PROCEDURE
 }
 
 // 1 where it holds, for a count.
 pub fn one_if(b: bool) -> usize
-    ensures* { λ r. ⌜ (r ≡ (if b then 1 else 0)) × (r ≤ 1) ⌝ }
+    ensures { (result ≡ (if b then 1 else 0)) × (result ≤ 1) }
 {
     if b { 1 } else { 0 }
 }
@@ -225,7 +227,7 @@ pub fn one_if(b: bool) -> usize
 // The first row of what the row after this one belongs to.
 pub fn home_after(opens: bool, row: usize, home: usize) -> usize
     requires { (row < 256) × (home ≤ row) }
-    ensures* { λ r. ⌜ (r ≡ (if opens then row + 1 else home)) × (r ≤ row + 1) ⌝ }
+    ensures { (result ≡ (if opens then row + 1 else home)) × (result ≤ row + 1) }
 {
     if opens { row + 1 } else { home }
 }
@@ -233,7 +235,7 @@ pub fn home_after(opens: bool, row: usize, home: usize) -> usize
 // The open loops after a row, from those before it, of which there are no more than rows.
 pub fn open_after(nest: u32, count: usize) -> usize
     requires { count < 2 ^ 62 }
-    ensures* { λ r. ⌜ (r ≡ open_after nest count) × (r ≤ count + 1) ⌝ }
+    ensures { (result ≡ open_after nest count) × (result ≤ count + 1) }
 {
     if nest == OPENS {
         return count + 1;
@@ -249,7 +251,7 @@ pub fn open_after(nest: u32, count: usize) -> usize
 
 // Whether a variable is declared with the kind and is marked.
 pub fn is_marked(words: &[u32], kind: u32, x: u32) -> bool
-    ensures* { λ r. ⌜ r ≡ marked words.now kind x ⌝ }
+    ensures { result ≡ marked words.now kind x }
 {
     let i = x as usize;
     let declared = word_or_zero(words, 4 * i);

@@ -1,4 +1,6 @@
 // What the layers share of code: the answer of a search, and a word of a list that has 0 past its end.
+#![tactic(auto)]
+
 ghost use Rattle.std.specs.Prelude.{◌≡◌, get_or};
 
 // The first place at which a test holds, or none.

@@ -1,4 +1,6 @@
 // The machines: the record by value, what a row comes to, and the step that makes the change. What a row comes to is worked out by the crates above.
+#![tactic(auto)]
+
 mod fresh; // fresh.rt: a fresh record and a blank one
 pub mod steps; // steps.rt: the steps
 

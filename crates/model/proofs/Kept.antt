@@ -175,7 +175,7 @@ any-load ps rs cells p = any-bind (any_array rs p.array) (λ r. keeps-if (ltb p.
 any-reduced_load : (ps : List ℕ) (rs : List Array) (cells : List ℕ) (p : Ptr) → Keeps Any (reduced_load ps rs cells p)
 any-reduced_load ps rs cells p =
     any-bind (any_array rs p.array)
-    (λ r. keeps-if (ltb p.place r.len) (λ _. keeps-if (keeps ps r p.place) (λ _. any-cell ps cells r _) (λ _. any-choose _)) (λ _. keeps-fail))
+    (λ r. keeps-if (ltb p.place r.len) (λ _. keeps-if (keeps ps r p.place) (λ _. any-cell ps cells r _) (λ _. any-choose (λ v. true))) (λ _. keeps-fail))
 
 any-valid : (rs : List Array) (i q : ℕ) → Keeps Any (is_valid rs i q)
 any-valid rs zero q = keeps-give tt

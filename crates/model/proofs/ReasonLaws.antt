@@ -228,7 +228,7 @@ module _ (ps : List ℕ) where
 
   reduced-for : (rs : List Array) (cells : List ℕ) (p : Ptr) → For Other (reduced_load ps rs cells p)
   reduced-for rs cells p = then-for (array-for rs p.array)
-      (λ r. if-for (ltb p.place r.len) (if-for (keeps ps r p.place) (cell-for ps cells r _) (choose-for _)) past-for)
+      (λ r. if-for (ltb p.place r.len) (if-for (keeps ps r p.place) (cell-for ps cells r _) (choose-for (λ v. true))) past-for)
 
   module _ (s : Contents) where
     rule-for : (w : Ty) (k : Node) (a b c : ℕ) {ev : (v : Ty) → ℕ → Work (Of v)} → ((v : Ty) (n : ℕ) → For Other (ev v n)) → For Other (rule ps s w k a b c ev)

@@ -81,9 +81,9 @@ module _ (t : Table) (q : ℕ) where
       → allowed q (operand_uses t (sofar n) k x) ≡ true
   node-has n e = operand-allowed t q (sofar n) (node_roles (node_kind (node_at t n).kind)) (node_at t n) (subst (λ u. allowed q u ≡ true) (uses-is n) e)
 
-  node-reads : (n v : ℕ) → Reads t v n → allowed q (node_uses t n) ≡ true → may_use t q v ≡ true
-  node-reads n v (itself m h) e = allowed-variable t q v (node-has n e a_variable v h)
-  node-reads n v (under m o h l r) e = node-reads o v r (rw (lt-ltb o n l) at (node-has n e a_node o h))
+  node-reads : (v n : ℕ) → Reads t v n → allowed q (node_uses t n) ≡ true → may_use t q v ≡ true
+  node-reads v n (itself m h) e = allowed-variable t q v (node-has n e a_variable v h)
+  node-reads v n (under m o h l r) e = node-reads v o r (rw (lt-ltb o n l) at (node-has n e a_node o h))
 
   node-allowed : (f n : ℕ) → n < f → ((v : ℕ) → Reads t v n → may_use t q v ≡ true) → allowed q (node_uses t n) ≡ true
   node-allowed zero n l h = absurd (not-suc-le-zero l)
@@ -163,4 +163,4 @@ uses-right t = record {
     named r e v (names h) =
         allowed-variable t (home t r) v (operand-allowed t (home t r) (node_uses t) (row_roles (row_kind (row_at t r).kind)) (row_at t r) e a_variable v h)
     named r e v (reads n h z) =
-        node-reads t (home t r) n v z (operand-allowed t (home t r) (node_uses t) (row_roles (row_kind (row_at t r).kind)) (row_at t r) e a_node n h)
+        node-reads t (home t r) v n z (operand-allowed t (home t r) (node_uses t) (row_roles (row_kind (row_at t r).kind)) (row_at t r) e a_node n h)

@@ -4,6 +4,8 @@
 // An answer is taken apart and made anew, which is quicker than to hand it on whole; one that has no value is handed on as it is.
 // own is the run's own copy of its table; ns and bs are the columns of the variables (numbers, bases), fs, ls and hs those of the `count`
 // arrays (firsts, lengths, shapes). For our crates above, which see to what is required.
+#![tactic(auto)]
+
 ghost use Rattle.std.specs.Prelude.{◌≤◌};
 ghost use Rattle.model.specs.Table.Ty.{bool, uint, pointer};
 ghost use Rattle.prepared.specs.Own.{decls_of};

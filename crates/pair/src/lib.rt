@@ -1,4 +1,6 @@
 // A pair of runs from one input: the plain run of a table, and the run of its reduction under the choices that the choice writer wrote.
+#![tactic(auto)]
+
 mod lines;
 mod tables;
 

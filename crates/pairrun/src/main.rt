@@ -1,5 +1,7 @@
 // The bench program: reads a pair, a limit of steps and a file from standard input, and prints the plain run and the reduced run under
 // the written choices, or a refusal. An input that cannot be read, or an output that cannot be written whole, gets a line on standard error.
+#![tactic(auto)]
+
 use printing::print_pair;
 
 // One byte more than the longest input that is not refused for its length: 12 bytes and a file of 22,016.

@@ -1,4 +1,6 @@
 // What a run is told, and the run's own copy of its table: each sort at a fixed place, with the form of value of each variable worked out.
+#![tactic(auto)]
+
 pub mod copies; // copies.rt: numbers copied into a lent list
 pub mod forms; // forms.rt: the form of value that a variable holds
 pub mod own; // own.rt: the copy

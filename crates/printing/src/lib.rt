@@ -1,4 +1,6 @@
 // Writes the text for an input to standard output.
+#![tactic(auto)]
+
 use text::pair_text;
 
 // Whether all of it was written.

@@ -1,4 +1,6 @@
 // The procedures of a table: the map by which a machine finds them, and check 17. All of it is for our crates above.
+#![tactic(auto)]
+
 ghost use Rattle.std.specs.Prelude.{◌≡◌, ◌+◌, ◌*◌, ◌/◌, ◌<◌, ◌≤◌, length};
 ghost use Rattle.lists.specs.First.{first};
 ghost use Rattle.kinds.specs.Code.{table_by, InSorts, There};

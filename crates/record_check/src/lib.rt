@@ -1,4 +1,6 @@
 // Check 15: whether a table can have a record, from which a run is to go on.
+#![tactic(auto)]
+
 mod callers; // callers.rt: the callers
 
 ghost use Rattle.std.specs.Prelude.{◌≡◌};

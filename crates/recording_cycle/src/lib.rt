@@ -3,6 +3,8 @@
 // number that the node must be below; it falls at every call. The table is a plain one: it has no node of the kinds 27 to 29.
 // The columns are named as there; held says of each array whether the reduced run holds it reduced, by a 1.
 // For our crates above, which see to what is required.
+#![tactic(auto)]
+
 ghost use Rattle.std.specs.Prelude.{◌≤◌};
 ghost use Rattle.model.specs.Table.Ty.{bool, uint, pointer};
 ghost use Rattle.prepared.specs.Own.{decls_of};

@@ -1,6 +1,8 @@
 // What a row of the plain machine comes to, with its numbers pushed onto a lent buffer from place 0 on: those of its operands, then its own.
 // The place in what it comes to is how many there are. The columns are named as in the evaluators; held says of each array whether the
 // reduced run holds it reduced. For the choice writer, which sees to what is required.
+#![tactic(auto)]
+
 ghost use Rattle.std.specs.Prelude.{◌≡◌, ℕ, ◌<◌, ◌≤◌, ◌^◌, List, length};
 ghost use Rattle.model.specs.Table.Row.{assign, store, loop, loop_end};
 ghost use Rattle.prepared.specs.Own.{decls_of, rows_of};

@@ -1,4 +1,6 @@
 // The check of the places, and the reduction of a table into a lent table.
+#![tactic(auto)]
+
 mod words;
 
 ghost use Rattle.std.specs.Prelude.{◌≡◌, length};

@@ -1,4 +1,6 @@
 // What the row where a record stands comes to. Nothing is changed here.
+#![tactic(auto)]
+
 ghost use Rattle.std.specs.Prelude.{◌≡◌, List, ℕ, ◌<◌, ◌≤◌, length, drop};
 ghost use Rattle.prepared.specs.Own.{decls_of, rows_of};
 ghost use Rattle.calls.specs.Stack.{depth_of};

@@ -1,4 +1,6 @@
 // The runs of both machines, fresh and continued: what they are lent is checked in order (rule 6.21), and a refusal writes nothing.
+#![tactic(auto)]
+
 pub mod checks;
 mod continued;
 mod fresh;

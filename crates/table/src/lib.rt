@@ -1,4 +1,6 @@
 // The checks 4 to 12, 16 and 17 of a table, plain or reduced: the first refusal by number and line.
+#![tactic(auto)]
+
 ghost use Rattle.std.specs.Prelude.{◌≡◌};
 ghost use Rattle.kinds.specs.Kinds.{machine_of};
 ghost use Rattle.table.specs.Checks.{table_check};

@@ -1,6 +1,8 @@
 // Calls the reader, the writer, the reduction and the checks of tables and pairs one by one, with buffers of any size and fill. Cases come
 // from standard input, each after its length; make_cases.py says how one is laid out. Of each a line is printed: the answer, and where a
 // buffer is lent the check number of all of it at exit.
+#![tactic(auto)]
+
 use file::{Read, Written};
 use testing::{print_part, print_refusal, print_verdict};
 use wire::{size, word};

@@ -1,5 +1,7 @@
 // Runs cases of files from standard input, each after its length: the reader, the table checks, the pair check, the reduction and the
 // writer, and prints a line for each case.
+#![tactic(auto)]
+
 use testing::print_part;
 use wire::word;
 

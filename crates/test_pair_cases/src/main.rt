@@ -1,4 +1,6 @@
 // Runs cases of inputs of `pairrun` from standard input, each after its length, and prints what `pairrun` prints of each.
+#![tactic(auto)]
+
 use printing::print_pair;
 
 // No case has more bytes.

@@ -1,6 +1,8 @@
 // Runs cases of tables from standard input, each after its length: a fresh run of a machine and the runs that continue it. It prints a
 // line for each run, with check numbers of the record and of the cells, and where the case asks for it how many cuts leave the run what it
 // is. make_cases.py says how a case is laid out.
+#![tactic(auto)]
+
 mod cuts; // cuts.rt: a run in parts
 
 ghost use Rattle.std.specs.Prelude.{◌<◌, ◌≤◌};

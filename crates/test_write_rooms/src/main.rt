@@ -1,6 +1,8 @@
 // Writes the choices of T (rule 8.9), of a table of calls and of T with a write that fails, for the pair 1, 3 into lists of every length from 0
 // to 31, lent full of sevens, and prints for each the end, the row, the steps, how many numbers were written, parts of the record, the check
 // number of the cells, which were sevens too, and the list at exit.
+#![tactic(auto)]
+
 ghost use Rattle.std.specs.Prelude.{◌≤◌};
 
 use calls::DEPTH;

@@ -1,4 +1,6 @@
 // What the test programs share: the parts of the lines that they print, and check numbers of words and of bytes.
+#![tactic(auto)]
+
 ghost use Rattle.std.specs.Prelude.{◌≡◌};
 ghost use Rattle.testing.specs.Checks.{mixed_with, check_number};
 

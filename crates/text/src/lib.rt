@@ -1,4 +1,6 @@
 // What the bench program prints, put into a lent buffer byte by byte.
+#![tactic(auto)]
+
 ghost use Rattle.std.specs.Prelude.{◌≡◌, ◌++◌, ◌<◌, ◌≤◌, length, drop};
 ghost use Rattle.recording.specs.CodePushes.{pushed, push};
 ghost use Rattle.machine.specs.View.{end_of};

@@ -1,5 +1,7 @@
 // Messages between a program and the one that started it, each after its length in bytes; words as bytes; and the answer of a run or of the
 // choice writer as words.
+#![tactic(auto)]
+
 ghost use Rattle.std.specs.Prelude.{◌≡◌, ◌<◌, ◌≤◌, length};
 ghost use Rattle.file.specs.Word.{byte_of};
 ghost use Rattle.wire.specs.Messages.{word_or_zero, words_of, byte_at, bytes_of};

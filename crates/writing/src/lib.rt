@@ -1,5 +1,7 @@
 // The parts of a step of the choice writer: the numbers of a row counted and written, the ends, and the machine after a call and after a return. All
 // of it is for the choice writer, which sees to what is required here.
+#![tactic(auto)]
+
 ghost use Rattle.std.specs.Prelude.{◌≡◌, ℕ, ◌+◌, ◌<◌, ◌≤◌, List, length};
 ghost use Rattle.std.proofs.Math.Seq.{paste};
 ghost use Rattle.calls.specs.CallAndReturn.{Procedures, CanCall, CanReturn};
