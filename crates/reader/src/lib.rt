@@ -7,7 +7,7 @@ ghost use Rattle.std.specs.Prelude.{◌≡◌};
 ghost use Rattle.reader.specs.Choose.{choice_at, cursor_after, followed_by};
 
 // A choice and the cursor after it, or no choice left.
-#[derive(Drop)]
+#[derive(Clone, Copy)]
 pub enum Choice {
     Is(u32, usize),
     NoneLeft,
@@ -45,7 +45,7 @@ fn followed(c: Choice, at: usize) -> Choice
 }
 
 // The list, and where the next choice stands in it.
-#[derive(Drop)]
+#[derive(Clone, Copy)]
 pub struct Reader<'a> {
     list: &'a [u32],
     at: usize,
