@@ -17,6 +17,7 @@ use Rattle.loop_checks.specs.Code.{kept_rows}
 use Rattle.loop_checks.proofs.IteratorLaws.{few-after, few-kept, kept-opening, kept-other, shares-by, shares-none}
 use Rattle.loop_checks.proofs.iterators.first_shared.Invariants.{shared}
 use Rattle.loop_checks.proofs.iterators.first_shared.Goals as goal
+use Rattle.loop_checks.proofs.iterators.first_shared.Goals.{then-nest-eq-OPENS+else-opened_with, else-nest-eq-OPENS}
 
 pub loop-row-init : goal.loop-row-init
 unfolding open_at kept_rows
@@ -60,24 +61,24 @@ loop-row-preserved c =
     let b = at_head.opened in
     let n = at_head.count in
     let kept = at_head.invariant.3 in
-    ⊎_elim
-    (λ w.
-    let opening = w.0.taken in
+    elim c.if-nest-eq-OPENS.branch [
+      then-nest-eq-OPENS+else-opened_with w ↦
+    let opening = w.if-nest-eq-OPENS.true in
     let few : n < 8 = few-kept t r nested.result nested.ensures b n kept (c.requires.1.rows r inside) opening in
-    let is : c.if-nest-eq-OPENS.opened ≡ set b n r = w.5 in
+    let is : c.if-nest-eq-OPENS.opened ≡ set b n r = w.opened-is in
     let shares = shares-by t r nested.result nested.ensures b n kept (home t r) opening in (
       search rules,
       omega (arith, counted.ensures.1),
       rw (is, length-set b n r) at_head.invariant.2,
       rw (is, counted.ensures.0) (kept-opening t r nested.result nested.ensures b n kept opening (omega (arith, at_head.invariant.2))),
       at_head.invariant.4
-          ∙ row-miss (shared t) t c.requires.0 r inside (shares ∙ rw (sym at_head.invariant.6, sym w.1.ensures) (sym w.3.ensures ∙ w.4.left)),
+          ∙ row-miss (shared t) t c.requires.0 r inside (shares ∙ rw (sym at_head.invariant.6, sym w.iterator_of-iterator.ensures) (sym w.opened_with.ensures ∙ w.if-opened_with.false)),
       search rules,
       next,
-    ))
-    (λ w.
-    let other = w.0.left in
-    let is : c.if-nest-eq-OPENS.opened ≡ b = w.1 in (
+    )
+      | else-nest-eq-OPENS w ↦
+    let other = w.if-nest-eq-OPENS.false in
+    let is : c.if-nest-eq-OPENS.opened ≡ b = w.opened-is in (
       search rules,
       few-after nested.result n 8 other counted.ensures.0 at_head.invariant.1,
       rw is at_head.invariant.2,
@@ -86,8 +87,8 @@ loop-row-preserved c =
           ∙ row-miss (shared t) t c.requires.0 r inside (shares-none t r nested.result nested.ensures b n kept (home t r) other),
       search rules,
       next,
-    ))
-    c.if-nest-eq-OPENS.branch
+    )
+    ]
 
 pub returns : goal.returns
 unfolding breaks16
