@@ -15,8 +15,8 @@ abbrev pub invariant-loop-v : goal.invariant-loop-v
 invariant-loop-v l =
     (l.v ≤ 32)
     × (length l.owners ≡ 32)
-    × ((j : ℕ) → j < l.v → get_or l.owners j 0 ≡ claimed (get_or l.initial.l.owners j 0) (within (stretch l.a l.count) j) l.first)
-    × ((j : ℕ) → l.v ≤ j → get_or l.owners j 0 ≡ get_or l.initial.l.owners j 0)
+    × ((j : ℕ) → j < l.v → get_or l.owners j 0 ≡ claimed (get_or l.initial.owners j 0) (within (stretch l.a l.count) j) l.first)
+    × ((j : ℕ) → l.v ≤ j → get_or l.owners j 0 ≡ get_or l.initial.owners j 0)
 
 abbrev pub decreases-loop-v : goal.decreases-loop-v
 decreases-loop-v l = 32 - l.v
