@@ -1,6 +1,6 @@
 // The choice list, read from its front (rule 3.11): a reader that holds the lent list and a cursor, the thin functions `take` and `rest` over
 // it, and `take_choice`, whose parameters are plain and through which every choice is read. The test and the read stand in
-// `choice_at`, on a slice and a number. The borrow checker covers no function over the reader, so those are proved by hand.
+// `choice_at`, on a slice and a number.
 #![tactic(auto)]
 
 ghost use Rattle.std.specs.Prelude.{◌≡◌};
