@@ -3,6 +3,7 @@
 use borrow.Author.Tests.{ne_eqb}
 use borrow.Author.Rules.{rules}
 use Rattle.prepared.specs.Own.{own_form}
+use Rattle.lists.proofs.Flags.{flags}
 use Rattle.prepared.proofs.forms.form_at.Goals as goal
 
 pub returns-in-1 : goal.returns-in-1
@@ -19,4 +20,4 @@ returns-in-3 c = rw c.in-3.is
 
 pub returns-in_default : goal.returns-in_default
 unfolding own_form
-returns-in_default c = rw (ne_eqb _ _ c.in_default-own.rest.0.0.1, ne_eqb _ _ c.in_default-own.rest.0.1, ne_eqb _ _ c.in_default-own.rest.1)
+returns-in_default c = search flags

@@ -3,6 +3,7 @@
 use mathlib.Core.Path.{sym, ◌∙◌}
 use Rattle.prepared.proofs.FormLaws.{form-bool, form-pointer, form-unmarked, form-plain, form-class}
 use borrow.Author.Rules.{rules}
+use native.Mathlib.Omega.{arith}
 use Rattle.prepared.proofs.forms.form_of.Goals as goal
 
 pub returns-then-mark-eq1 : goal.returns-then-mark-eq1
@@ -23,5 +24,4 @@ returns-else-f c = form-plain _ _ _ (sym c.word_or_zero-kind.ensures ∙ c.in-2.
 
 pub returns-in_default : goal.returns-in_default
 returns-in_default c =
-    form-pointer _ _ _ (λ e. c.in_default-own.rest.0.1 (c.word_or_zero-kind.ensures ∙ e))
-    (λ e. c.in_default-own.rest.1 (c.word_or_zero-kind.ensures ∙ e))
+    form-pointer _ _ _ (λ e. omega arith) (λ e. omega arith)
