@@ -22,8 +22,7 @@ returns-in-17 c =
 
 pub returns-in_default : goal.returns-in_default
 returns-in_default c =
-    let r = c.in_default.rest in
     record {
       leaf = λ count bs fs ls hs cells l. no-uint-leaf _ _ _ _ _ c.if-user-node.false
-          c.requires.2 r.0.1 r.1;
+          c.requires.2 (search rules) (search rules);
     }

@@ -1,5 +1,6 @@
 -- Each kind by computing; a kind that is none of them is no node.
 -- Assumes nothing.
+use borrow.Author.Rules.{rules}
 use Rattle.model.specs.Table.{node_kind}
 use Rattle.evaluators.proofs.ViewLaws.{no_kind}
 use Rattle.evaluators.proofs.nodes.make.Goals as goal
@@ -62,7 +63,5 @@ returns-in-29 c = rw c.in-29.is
 
 pub returns-in_default : goal.returns-in_default
 returns-in_default c =
-    let r = c.in_default.rest in
-    let q = r.0.0.0.0.0.0.0 in
-    rw (no_kind _ q.0.0.0.0.0.0.1 q.0.0.0.0.0.1 q.0.0.0.0.1 q.0.0.0.1 q.0.0.1 q.0.1 q.1
-    r.0.0.0.0.0.0.1 r.0.0.0.0.0.1 r.0.0.0.0.1 r.0.0.0.1 r.0.0.1 r.0.1 r.1)
+    rw (no_kind c.args.kind (search rules) (search rules) (search rules) (search rules) (search rules) (search rules) (search rules)
+    (search rules) (search rules) (search rules) (search rules) (search rules) (search rules) (search rules))
