@@ -3,3 +3,4 @@ pub mod AnswerLaws
 pub mod ViewLaws
 pub mod NodeLaws
 pub mod OtherAnswers
+pub mod OtherNodes
