@@ -56,7 +56,7 @@ const USED: usize = 5;
 const LIST: usize = 8192;
 
 // What the head of a message asks for.
-#[derive(Drop)]
+#[derive(Clone, Copy)]
 struct Asked {
     what: u32,
     c1: u32,

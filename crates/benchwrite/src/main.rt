@@ -28,7 +28,7 @@ const MIDDLE: usize = 16777216;
 const LONG: usize = 268435456;
 
 // What the head of a message asks for.
-#[derive(Drop)]
+#[derive(Clone, Copy)]
 struct Asked {
     c1: u32,
     c2: u32,

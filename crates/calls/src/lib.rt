@@ -32,7 +32,7 @@ pub const DEPTH: usize = CALLERS * CALLER;
 pub const STACK: usize = DEPTH + 1;
 
 // Where a run stands after a return: its row, and how many loops are open.
-#[derive(Drop)]
+#[derive(Clone, Copy)]
 pub struct Stood {
     pub row: u32,
     pub open: u32,

@@ -14,7 +14,7 @@ use prepared::places::class_in;
 use reader::{Choice, take_choice};
 
 // Why an operand or a row failed (rule 2.36).
-#[derive(Drop)]
+#[derive(Clone, Copy)]
 pub enum Reason {
     SumTooLarge,
     BelowZero,
@@ -38,7 +38,7 @@ pub fn reason_number(reason: Reason) -> u32
 
 // Why there is no value, of an operand, a row or a run: it failed, with its reason; a choice is not allowed; no choice is left; or stuck, the
 // outcome that is no end.
-#[derive(Drop)]
+#[derive(Clone, Copy)]
 pub enum Failure {
     Fails(Reason),
     BadChoice,
@@ -48,7 +48,7 @@ pub enum Failure {
 
 // A value and the place of the next choice, or why there is none. An evaluator's value is of its own type, so that its user hands any other
 // answer on as it is.
-#[derive(Drop)]
+#[derive(Clone, Copy)]
 pub enum Answer {
     Bool(bool, usize),
     Uint(u32, usize),

@@ -12,7 +12,7 @@ use crate::answers::{Answer, Failure, Reason, any_choice};
 use prepared::places::{class_in, is_tracked};
 
 // An array's first cell, its length and whether it is reduced; no array; or one that the record lacks.
-#[derive(Drop)]
+#[derive(Clone, Copy)]
 pub enum Target {
     Array(u32, u32, bool),
     Missing,

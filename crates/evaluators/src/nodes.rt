@@ -6,7 +6,7 @@ ghost use Rattle.evaluators.specs.CodeLeaves.{decoded, node_in};
 use prepared::own::NODES;
 
 // A node with its operands. 19 and 28 differ by a bool, and so do 20 and 21; 22 to 24 differ by the kind.
-#[derive(Drop)]
+#[derive(Clone, Copy)]
 pub enum Node {
     Variable(usize),
     Constant(u32),

@@ -20,14 +20,14 @@ use layout::{BLOCK, FILE_BYTES};
 use table::{Verdict, check_table};
 
 // What reading a file gives: the number of lines, or a refusal's number and its place.
-#[derive(Drop)]
+#[derive(Clone, Copy)]
 pub enum Read {
     Lines(u32),
     Refused(u32, u32),
 }
 
 // What writing a file gives: the number of bytes, or a refusal's number and its place.
-#[derive(Drop)]
+#[derive(Clone, Copy)]
 pub enum Written {
     Bytes(u32),
     Refused(u32, usize),

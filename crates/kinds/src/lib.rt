@@ -12,7 +12,7 @@ ghost use Rattle.kinds.specs.Code.{entries, role_number, suits_by, there_by, typ
 use lists::word_or_zero;
 
 // How many declarations, nodes and rows a table has.
-#[derive(Drop)]
+#[derive(Clone, Copy)]
 pub struct Counts {
     pub decls: usize,
     pub nodes: usize,

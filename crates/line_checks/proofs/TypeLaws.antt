@@ -26,7 +26,7 @@ use Rattle.model.specs.Accepted.{is_reduced, node_suits, row_suits, node_suits_m
 use Rattle.model.proofs.Homes.{opens-is}
 use Rattle.model.proofs.ReduceLaws.{opens-43}
 use Rattle.kinds.specs.Kinds.{kind_at, machine_of}
-use Rattle.kinds.specs.Code.{typing, node_typing, row_typing, typed_by, result, node_result, result_by, marking, node_marking, row_marking, suits_mark}
+use Rattle.kinds.specs.Code.{typing, node_typing, row_typing, typed_by, resulting, node_result, result_by, marking, node_marking, row_marking, suits_mark}
 use Rattle.kinds.specs.Code.{InSorts, There, LocalsFit}
 use Rattle.kinds.proofs.LineLaws.{at-declaration, by-line, kept_more, locals-fit, node-line, node-low, row_line, three}
 use Rattle.line_checks.specs.Rules.{breaks9, breaks12}
@@ -61,7 +61,7 @@ module _ (t : Table) (types : List ℕ) (n : ℕ) (known : Types t types n) wher
       go false e = refl
 
   type-is : line_type t.words types (t.decls + n) n ≡ ty_number (node_type t n)
-  unfolding node_type result
+  unfolding node_type resulting
   type-is = sym (
       ap ty_number (value-is (λ m ty. type_by (type_at t) (node_kind (node_at t m).kind) (node_at t m).a (node_at t m).b ty) bool n)
       ∙ result-by (type_at t) (node_kind (node_at t n).kind) (node_at t n).a (node_at t n).b (λ j. if ltb j n then node_type t j else bool)

@@ -4,7 +4,7 @@ use Rattle.lists.specs.If.{if◌then◌else◌}
 use Rattle.lists.specs.Tab.{all}
 use Rattle.model.specs.Table.{Table, line_at, type_of, marked, row_kind, opens_procedure}
 use Rattle.model.specs.Accepted.{node_type, ty_number}
-use Rattle.kinds.specs.Code.{typing, typed_by, result, result_by, marking, suits_mark}
+use Rattle.kinds.specs.Code.{typing, typed_by, resulting, result_by, marking, suits_mark}
 use Rattle.line_checks.specs.Rules.{depth}
 
 -- the buffer has the types of the first n nodes
@@ -21,7 +21,7 @@ variable_type w x = ty_number (type_of (get_or w (4 * x) 0))
 -- the type of the node at a line, by its number
 abbrev pub line_type : List ℕ → List ℕ → ℕ → ℕ → ℕ
 line_type w types i n =
-    result_by (result (line_at w i).kind) (variable_type w (line_at w i).a) (type_below types n (line_at w i).a) (type_below types n (line_at w i).b)
+    result_by (resulting (line_at w i).kind) (variable_type w (line_at w i).a) (type_below types n (line_at w i).a) (type_below types n (line_at w i).b)
 
 -- a line's operands have the types that its kind asks
 abbrev pub operands_typed : List ℕ → List ℕ → ℕ → Bool

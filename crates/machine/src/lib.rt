@@ -8,7 +8,7 @@ use calls::{CALLERS, LOCALS, STACK};
 use evaluators::answers::{Failure, Reason};
 
 // The ends of a run (rule 2.29), a failure with its reason; list full is the choice writer's alone, too deep that of a call (rule 2.41).
-#[derive(Drop)]
+#[derive(Clone, Copy)]
 pub enum End {
     Done,
     AssertFalse,
@@ -26,7 +26,7 @@ pub enum End {
 // outermost first, each with its row, start and end; the arrays, each with its first cell, its true length and its shape, 1 for a reduced one
 // and any other for a plain one. What stands past those in use is no part of it (rule 7.13).
 // A number stands before each group of columns: so a change to one column copies that column and no other.
-#[derive(Drop)]
+#[derive(Clone, Copy)]
 pub struct Machine {
     pub row: u32,
     pub numbers: [u32; Machine::VARIABLES],
@@ -43,7 +43,7 @@ pub struct Machine {
 
 // The record: the machine, and the stack of its callers, 30 words for each of eight, the one in main first: its row, how many loops are open,
 // four locals, and the rows, starts and ends of eight loops. The last word is how many callers there are (rule 2.39).
-#[derive(Drop)]
+#[derive(Clone, Copy)]
 pub struct Record {
     pub machine: Machine,
     pub stack: [u32; STACK],
@@ -73,7 +73,7 @@ impl Record {
 // cell, length, cells, and whether it is reduced); the loop of a row is entered (its iterator and the iterator's number, the row, how many
 // loops are open around it, start and end) or left (iterator and number, how many loops stay open, the row to go to); a procedure is called
 // with a number, or a number is returned to the last caller.
-#[derive(Drop)]
+#[derive(Clone, Copy)]
 pub enum Move {
     Goes,
     Puts(usize, u32, u32),
@@ -87,7 +87,7 @@ pub enum Move {
 
 // What a row comes to: a change, or the run's end, each with the place of the next choice; or why there is neither. A row that ends the run
 // changes nothing, by its type.
-#[derive(Drop)]
+#[derive(Clone, Copy)]
 pub enum Worked {
     Moves(Move, usize),
     Ends(End, usize),

@@ -13,7 +13,7 @@ use table::Verdict;
 use tables::run_file;
 
 // What a line of output says of a run: its end, where it stands, the steps and the choices used.
-#[derive(Drop)]
+#[derive(Clone, Copy)]
 pub struct Line {
     pub end: End,
     pub row: u32,
@@ -22,7 +22,7 @@ pub struct Line {
 }
 
 // The answer to an input: whether it was refused; the lines of the two runs are no part of a refusal.
-#[derive(Drop)]
+#[derive(Clone, Copy)]
 pub struct Paired {
     pub verdict: Verdict,
     pub plain: Line,

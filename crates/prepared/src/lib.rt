@@ -10,7 +10,7 @@ use kinds::Counts;
 
 // The two places; whether marked uints hold classes, as in the reduced machine; and how many lines of each sort the table has.
 // The plain machine tracks no place, whatever the two numbers are.
-#[derive(Drop)]
+#[derive(Clone, Copy)]
 pub struct Frame {
     pub c1: u32,
     pub c2: u32,
@@ -19,7 +19,7 @@ pub struct Frame {
 }
 
 // The form of value that a variable holds.
-#[derive(Drop)]
+#[derive(Clone, Copy)]
 pub enum Form {
     Bool,
     Uint,

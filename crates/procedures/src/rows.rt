@@ -18,7 +18,7 @@ const MOST_PROCEDURES: usize = 16;
 const MOST_LOCALS: u32 = 4;
 
 // What was met before a row: the first row of what it belongs to, how many procedures opened, and how many loops are open.
-#[derive(Drop)]
+#[derive(Clone, Copy)]
 pub(crate) struct Met {
     pub(crate) home: usize,
     pub(crate) opened: usize,

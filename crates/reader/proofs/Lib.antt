@@ -1,3 +1,2 @@
--- Laws of a choice by what is left of the list, which the layers above cite, and what the walks of the functions over a `Reader` share.
+-- Laws of a choice by what is left of the list, which the layers above cite.
 pub mod ReaderLaws
-mod Walking

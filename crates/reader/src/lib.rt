@@ -1,13 +1,13 @@
 // The choice list, read from its front (rule 3.11): a reader that holds the lent list and a cursor, the thin functions `take` and `rest` over
 // it, and `take_choice`, whose parameters are plain and through which every choice is read. The test and the read stand in
-// `choice_at`, on a slice and a number. The borrow checker covers no function over the reader, so those are proved by hand.
+// `choice_at`, on a slice and a number.
 #![tactic(auto)]
 
 ghost use Rattle.std.specs.Prelude.{◌≡◌};
 ghost use Rattle.reader.specs.Choose.{choice_at, cursor_after, followed_by};
 
 // A choice and the cursor after it, or no choice left.
-#[derive(Drop)]
+#[derive(Clone, Copy)]
 pub enum Choice {
     Is(u32, usize),
     NoneLeft,
@@ -45,7 +45,7 @@ fn followed(c: Choice, at: usize) -> Choice
 }
 
 // The list, and where the next choice stands in it.
-#[derive(Drop)]
+#[derive(Clone, Copy)]
 pub struct Reader<'a> {
     list: &'a [u32],
     at: usize,

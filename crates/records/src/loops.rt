@@ -16,7 +16,7 @@ const CLOSES: u32 = 2;
 
 // A walk back from a row: so many loops were closed and are yet to be opened, and so many of the record's are yet to be met; or the
 // record's next loop is another.
-#[derive(Drop)]
+#[derive(Clone, Copy)]
 pub enum Walk {
     On(usize, usize),
     Differs,

@@ -20,7 +20,7 @@ use table::Verdict;
 
 // What a run hands back, beside the cells: its end, the steps, the choices used, and the record, whose row is where the run stands. Of the
 // choice writer the same, with the numbers written for the choices used.
-#[derive(Drop)]
+#[derive(Clone, Copy)]
 pub struct Ran {
     pub end: End,
     pub steps: u32,
@@ -29,7 +29,7 @@ pub struct Ran {
 }
 
 // The answer of a run or of the choice writer: whether it was refused; what the run came to is no part of a refusal.
-#[derive(Drop)]
+#[derive(Clone, Copy)]
 pub struct Answered {
     pub verdict: Verdict,
     pub ran: Ran,

@@ -12,7 +12,7 @@ pub mod sorts; // sorts.rt: how many lines each sort has
 mod checks; // checks.rt: the checks in their order
 
 // The answer of a check: it passes, or it is refused with a number from 1 to 17 and the place (rule 6.1).
-#[derive(Drop)]
+#[derive(Clone, Copy)]
 pub enum Verdict {
     Passes,
     Refused(u32, usize),

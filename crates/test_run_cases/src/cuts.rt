@@ -14,7 +14,7 @@ const ALL_PAIRS: u32 = 9;
 const MOST: u64 = 18446744073709551615;
 
 // A run to cut: the machine, whether it is fresh, the record that it starts with, its limit, and what it answered.
-#[derive(Drop)]
+#[derive(Clone, Copy)]
 pub(crate) struct Whole {
     pub(crate) asked: Asked,
     pub(crate) first: bool,
@@ -24,7 +24,7 @@ pub(crate) struct Whole {
 }
 
 // A run in parts: what the last of them answered, and the steps and choices of all.
-#[derive(Drop)]
+#[derive(Clone, Copy)]
 struct Parts {
     last: Answered,
     steps: u64,

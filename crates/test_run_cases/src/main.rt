@@ -25,7 +25,7 @@ const CELLS: usize = 4200;
 const HEAD: usize = 7;
 
 // What the head of a case says of its runs: the machine, the pair, how often the first run is done, and whether they are cut.
-#[derive(Drop)]
+#[derive(Clone, Copy)]
 struct Asked {
     reduced: bool,
     c1: u32,
@@ -35,7 +35,7 @@ struct Asked {
 }
 
 // What a run leaves to the next one.
-#[derive(Drop)]
+#[derive(Clone, Copy)]
 struct Kept {
     record: Record,
     used: usize,

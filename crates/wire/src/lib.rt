@@ -20,7 +20,7 @@ const CHUNK: usize = 1024;
 // Messages
 
 // The message that was read: whether there was one that fits, and its length in bytes.
-#[derive(Drop)]
+#[derive(Clone, Copy)]
 pub struct Message {
     pub there: bool,
     pub bytes: usize,

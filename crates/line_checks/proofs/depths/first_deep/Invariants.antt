@@ -1,0 +1,23 @@
+-- `depths::first_deep` meets its contract: what is sought from 0 on is what is sought from `i` on, and what is kept stays right.
+-- Assumes nothing.
+use borrow.Author.Rules.{rules}
+use Prim.Native.Nat.{◌≤◌, ◌-◌, ◌/◌}
+use native.Mathlib.Omega.{arith}
+use native.Mathlib.Nat.{sub-zero}
+use mathlib.Core.Path.{◌≡◌, refl, sym, ◌∙◌}
+use lib.ListN.{length}
+use Rattle.lists.specs.First.{first}
+use Rattle.lists.proofs.FirstLaws.{first-hit, first-miss, first-none}
+use Rattle.kinds.specs.Code.{table_by}
+use Rattle.line_checks.specs.Rules.{breaks10}
+use Rattle.line_checks.specs.Code.{Kept}
+use Rattle.line_checks.proofs.DepthLaws.{kept-none}
+use Rattle.line_checks.proofs.depths.first_deep.Given as goal
+
+abbrev pub invariant-loop-i : goal.invariant-loop-i
+invariant-loop-i l =
+    (l.i ≤ l.lines) × (length l.depths ≡ 1024) × Kept (table_by l.words l.counts) l.depths
+    × (first (breaks10 (table_by l.words l.counts)) 0 (length l.words / 4) ≡ first (breaks10 (table_by l.words l.counts)) l.i (l.lines - l.i))
+
+abbrev pub decreases-loop-i : goal.decreases-loop-i
+decreases-loop-i l = l.lines - l.i

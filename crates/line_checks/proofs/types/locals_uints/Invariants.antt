@@ -1,0 +1,19 @@
+-- `types::locals_uints` meets its contract: the locals passed are uints.
+-- Assumes nothing.
+use borrow.Author.Rules.{rules}
+use Prim.Native.Nat.{◌+◌, ◌-◌, ◌≤◌}
+use native.Mathlib.Omega.{arith}
+use mathlib.Core.Path.{◌≡◌, refl, sym}
+use mathlib.Core.Bool.{true}
+use lib.Dec.{eqb}
+use borrow.Author.Tests.{eq-eqb, ne_eqb}
+use Rattle.lists.specs.Tab.{all}
+use Rattle.lists.proofs.TabLaws.{all_more, all-stop}
+use Rattle.line_checks.specs.Code.{variable_type, locals_uints}
+use Rattle.line_checks.proofs.types.locals_uints.Given as goal
+
+abbrev pub invariant-loop-i : goal.invariant-loop-i
+invariant-loop-i l = (l.i ≤ l.count) × (all l.i (λ j. eqb (variable_type l.words (l.a + j)) 2) ≡ true)
+
+abbrev pub decreases-loop-i : goal.decreases-loop-i
+decreases-loop-i l = l.count - l.i

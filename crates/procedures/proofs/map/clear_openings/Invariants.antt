@@ -1,0 +1,16 @@
+-- `map::clear_openings` meets its contract: the places passed have the row count.
+-- Assumes nothing.
+use borrow.Author.Rules.{rules}
+use Prim.Native.Nat.{ℕ, ◌≤◌, ◌<◌, ◌-◌}
+use native.Mathlib.Omega.{arith}
+use mathlib.Core.Path.{◌≡◌, refl}
+use lib.ListN.{length, get_or, length-set}
+use Rattle.kinds.proofs.LineLaws.{kept_more}
+use Rattle.procedures.specs.Map.{map_size}
+use Rattle.procedures.proofs.map.clear_openings.Given as goal
+
+abbrev pub invariant-loop-k : goal.invariant-loop-k
+invariant-loop-k l = (l.k ≤ 16) × (length l.map ≡ map_size) × ((j : ℕ) → j < l.k → get_or l.map j 0 ≡ l.rows)
+
+abbrev pub decreases-loop-k : goal.decreases-loop-k
+decreases-loop-k l = 16 - l.k

@@ -1,0 +1,39 @@
+-- `map_procedures` meets its contract: before each row the map is right of the procedures opened before it and of the rows above it.
+-- Assumes nothing.
+use borrow.Author.Rules.{rules}
+use Prim.Native.Nat.{◌≤◌, ◌-◌}
+use native.Mathlib.Omega.{arith}
+use mathlib.Core.Path.{◌≡◌, sym, ◌∙◌}
+use lib.ListN.{length-set}
+use Rattle.model.specs.Table.{home}
+use Rattle.model.specs.Procedures.{opened_before}
+use Rattle.kinds.specs.Code.{table_by}
+use Rattle.kinds.proofs.LineLaws.{home-more, home-none}
+use Rattle.procedures.proofs.MapLaws.{MappedBefore, before_more, before-none, mapped-all, opened-more, opened-none}
+use Rattle.procedures.proofs.map_procedures.Goals as goal
+
+pub loop-row-init : goal.loop-row-init
+loop-row-init c =
+    let t = table_by c.args.words.now c.args.counts in
+    (search rules, search rules, search rules, sym (home-none t), sym (opened-none t), before-none t _ c.clear_openings.ensures)
+
+pub loop-row-preserved : goal.loop-row-preserved
+loop-row-preserved c =
+    let t = table_by c.args.words.now c.args.counts in
+    let at_head = c.loop-row in
+    let opens = c.opens_procedure-opens in (
+      search rules,
+      search rules,
+      search rules,
+      rw (c.home_after-home.ensures.0, opens.ensures, at_head.invariant.3) (sym (home-more t at_head.row)),
+      rw (c.one_if-opened.ensures.0, opens.ensures, at_head.invariant.4) (sym (opened-more t at_head.row)),
+      rw c.note_opening.ensures
+          (before_more t at_head.map at_head.row at_head.invariant.5 at_head.home at_head.invariant.3 (omega arith) c.loop-row-test.true
+          opens.result opens.ensures at_head.opened at_head.invariant.4),
+    )
+
+pub returns : goal.returns
+returns c =
+    let t = table_by c.args.words.now c.args.counts in
+    let at_head = c.loop-row in
+    mapped-all t at_head.map at_head.row at_head.invariant.5 at_head.home at_head.invariant.3 (omega arith) (omega arith)

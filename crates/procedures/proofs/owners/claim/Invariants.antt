@@ -1,0 +1,22 @@
+-- `owners::claim` meets its contract: the variables passed have their new numbers, the others their old ones.
+-- Assumes nothing.
+use borrow.Author.Rules.{rules}
+use Prim.Native.Nat.{ℕ, ◌≤◌, ◌<◌, ◌-◌}
+use native.Mathlib.Omega.{arith}
+use mathlib.Core.Path.{◌≡◌, refl, ◌∙◌}
+use lib.ListN.{length, get_or, length-set}
+use lib.Seq.{get_or-set_other}
+use Rattle.model.specs.Table.{stretch, within}
+use Rattle.kinds.proofs.LineLaws.{kept_more}
+use Rattle.procedures.specs.Code.{claimed}
+use Rattle.procedures.proofs.owners.claim.Given as goal
+
+abbrev pub invariant-loop-v : goal.invariant-loop-v
+invariant-loop-v l =
+    (l.v ≤ 32)
+    × (length l.owners ≡ 32)
+    × ((j : ℕ) → j < l.v → get_or l.owners j 0 ≡ claimed (get_or l.initial.owners j 0) (within (stretch l.a l.count) j) l.first)
+    × ((j : ℕ) → l.v ≤ j → get_or l.owners j 0 ≡ get_or l.initial.owners j 0)
+
+abbrev pub decreases-loop-v : goal.decreases-loop-v
+decreases-loop-v l = 32 - l.v
