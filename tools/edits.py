@@ -19,8 +19,7 @@ BEFORE = "a1a088d1fedc19336b0038887fc65f0bb6f2c5a4"
 # words that port.py turned, of those that the edits name
 WORDS = {"getD": "get_or"}
 
-# Imports stand together today, clauses have their new form, a call that rt fmt broke into lines has no line of which the old text is a part, and a
-# value that is no copy is moved by a call before its field is read in the call's arguments.
+# Imports stand together today, clauses have their new form, and a call that rt fmt broke into lines has no line of which the old text is a part.
 BY_HAND = {
     "calls/callers_loops_dropped.edit": [("src/lib.rt", "        open,", "        0,")],
     "demands/equal_places.edit": [("specs/Demand3.antt", "ℕ, ◌<◌, List}", "ℕ, ◌≤◌, List}"), ("specs/Demand3.antt", "(c1 c2 : ℕ) → c1 < c2", "(c1 c2 : ℕ) → c1 ≤ c2")],
@@ -43,13 +42,6 @@ BY_HAND = {
     "demands/step_too_many.edit": [
         ("specs/Demand1.antt", "◌/◌, ◌≤◌, List", "◌/◌, ◌≤◌, ◌<◌, List"),
         ("specs/Demand1.antt", "(reports (ended e n s left) used) = (n ≤ limit) × (used ≤ length choices)", "(reports (ended e n s left) used) = (n < limit) × (used ≤ length choices)"),
-    ],
-    "machine/record_before.edit": [
-        (
-            "src/steps.rt",
-            "            Move::Leaves(a, number, depth, next) => self.leave(a, number, depth, next),",
-            "            Move::Leaves(a, number, depth, next) => { let row = self.row; self.leave(a, number, depth, row) }",
-        )
     ],
     "model/byte_wraps.edit": [
         ("src/lib.rt", "◌≡◌, ◌≤◌};", "◌≡◌, ◌≤◌, ◌*◌};"),
@@ -77,7 +69,6 @@ BY_HAND = {
     "recording_rows/value_numbers_lost.edit": [("src/lib.rt", "        last,", "        next,")],
     "row_moves/assume_for_assert.edit": [("src/lib.rt", "        36 => tested(", "        36 => tested(!")],
     "wire/high_before_low.edit": [("specs/Heads.antt", "r.used % 2 ^ 32 ∷ r.used / 2 ^ 32 ∷", "r.used / 2 ^ 32 ∷ r.used % 2 ^ 32 ∷")],
-    "writing/call_goes_nowhere.edit": [("src/lib.rt", "    m.begin(numbers, next)", "    let row = m.row; m.begin(numbers, row)")],
     "writing/returned_number_lost.edit": [("src/lib.rt", "    let back = give_back(", "    let x = 0; let back = give_back(")],
 }
 
