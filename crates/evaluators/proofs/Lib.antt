@@ -2,3 +2,4 @@
 pub mod AnswerLaws
 pub mod ViewLaws
 pub mod NodeLaws
+pub mod OtherAnswers

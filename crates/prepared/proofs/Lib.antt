@@ -5,3 +5,4 @@ pub mod VarLaws
 pub mod PasteLaws
 pub mod FormLaws
 pub mod OwnLaws
+pub mod OtherForms

@@ -1,0 +1,21 @@
+-- By the form of the variable, and the arrays of the record.
+-- Assumes nothing.
+use Rattle.evaluators.proofs.ViewLaws.{pointer_out, holds-pointer, holds-lacking, holds-none-pointer}
+use borrow.Author.Rules.{rules}
+use Rattle.prepared.proofs.OtherForms.{form-no-pointer}
+use Rattle.evaluators.proofs.leaves.pointer_variable.Goals as goal
+
+pub returns-then-own-a : goal.returns-then-own-a
+returns-then-own-a c = pointer_out _ _ _ _ _ _ c.if-own-a.true
+
+pub returns-in_default : goal.returns-in_default
+returns-in_default c =
+    holds-none-pointer _ _ _ _ _ _ c.if-own-a.false c.form_at-form.ensures (form-no-pointer _ c.in_default.not-Pointer)
+
+pub returns-then-to-count : goal.returns-then-to-count
+returns-then-to-count c =
+    holds-pointer _ _ _ _ _ _ c.if-own-a.false c.form_at-form.ensures c.in-Pointer.is c.if-to-count.true
+
+pub returns : goal.returns
+returns c =
+    holds-lacking _ _ _ _ _ _ c.if-own-a.false c.form_at-form.ensures c.in-Pointer.is c.if-to-count.false

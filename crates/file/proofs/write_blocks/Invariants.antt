@@ -1,0 +1,13 @@
+-- The loop has written k blocks.
+use Rattle.std.proofs.Common.{◌≡◌, ◌+◌, ◌-◌, ◌*◌, ◌≤◌, length, take, sym, arith, rules}
+use Rattle.lists.specs.Tab.{tab}
+use Rattle.lists.proofs.TabLaws.{length-tab, tab-none}
+use Rattle.file.specs.Layout.{blocks_for, lines_in, file_byte, file_bytes}
+use Rattle.file.proofs.LayoutLaws.{length-file}
+use Rattle.file.proofs.write_blocks.Given as goal
+
+abbrev pub invariant-loop-k : goal.invariant-loop-k
+invariant-loop-k l = (l.k ≤ l.n) × (length l.out ≡ 22016) × (take (512 * l.k) l.out ≡ tab (512 * l.k) (file_byte l.ws))
+
+abbrev pub decreases-loop-k : goal.decreases-loop-k
+decreases-loop-k l = l.n - l.k

@@ -1,0 +1,10 @@
+-- One copy after another.
+-- Assumes nothing.
+use Rattle.prepared.proofs.OwnLaws.{copies-made}
+use borrow.Author.Rules.{rules}
+use Rattle.prepared.proofs.own.copy_lines.Goals as goal
+
+pub returns : goal.returns
+returns c =
+    copies-made _ _ _ c.copy.ensures
+    c.copy-2.ensures c.copy-3.ensures

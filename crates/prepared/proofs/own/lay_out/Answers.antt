@@ -1,0 +1,14 @@
+-- The lines are copied into zeros, what the run is told is set, and then the forms are.
+-- Assumes nothing.
+use native.Mathlib.Omega.{arith}
+use mathlib.Core.Path.{◌∙◌, ap}
+use lib.ListN.{length}
+use borrow.Author.Rules.{rules}
+use Rattle.prepared.proofs.OwnLaws.{long-blank, length-copied, length-told, laid_out}
+use Rattle.prepared.proofs.own.lay_out.Goals as goal
+
+pub returns : goal.returns
+returns c =
+    let lines = c.copy_lines.ensures in
+    laid_out _ c.args.f c.requires.0 c.requires.1 lines c.tell.ensures
+    c.set_forms.ensures

@@ -1,0 +1,12 @@
+-- The code tests what the definition tests.
+use Rattle.lists.proofs.Flags.{flags}
+use Rattle.model.specs.Class.{accepted_places}
+use Rattle.reduction.proofs.check_pair.Goals as goal
+
+pub returns-then-c1-c2 : goal.returns-then-c1-c2
+unfolding accepted_places
+returns-then-c1-c2 c = search flags
+
+pub returns : goal.returns
+unfolding accepted_places
+returns c = search flags

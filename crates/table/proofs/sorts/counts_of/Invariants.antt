@@ -1,0 +1,23 @@
+-- `sorts::counts_of` meets its contract: each count is a sum over the lines passed.
+-- Assumes nothing.
+use borrow.Author.Rules.{rules}
+use Prim.Native.Nat.{◌≤◌, ◌-◌, ◌/◌}
+use native.Mathlib.Omega.{arith}
+use mathlib.Core.Path.{◌≡◌, refl}
+use lib.ListN.{length}
+use Rattle.lists.specs.Tab.{sum}
+use Rattle.lists.proofs.TabLaws.{sum_more}
+use Rattle.model.specs.Table.{is_declaration, is_node, is_row}
+use Rattle.table.specs.Code.{one, up_to}
+use Rattle.table.proofs.sorts.counts_of.Given as goal
+
+abbrev pub invariant-loop-i : goal.invariant-loop-i
+invariant-loop-i l =
+    (l.i ≤ l.lines)
+    × (l.decls ≡ up_to is_declaration l.words l.i)
+    × (l.nodes ≡ up_to is_node l.words l.i)
+    × (l.rows ≡ up_to is_row l.words l.i)
+    × ((l.decls ≤ l.i) × (l.nodes ≤ l.i) × (l.rows ≤ l.i))
+
+abbrev pub decreases-loop-i : goal.decreases-loop-i
+decreases-loop-i l = l.lines - l.i
