@@ -77,7 +77,7 @@ pub fn rest<'a>(r: Reader<'a>) -> Reader<'a>
 
 // Every choice is read here: the number is what `take` gives, and the cursor after it that of `rest`.
 pub fn take_choice(list: &[u32], at: usize) -> Choice
-    ensures { result ≡ choice_at list.now at }
+    ensures { result ≡ choice_at list.now at } // the choice at the cursor, not the one after it
 {
     let r = new(list, at);
     let c = take(r);
