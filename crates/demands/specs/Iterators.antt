@@ -57,7 +57,7 @@ pub record Iterators : Type 0 where
   pub apart : ApartPasses
   -- no table that passes has one, and no state of its runs has, in what is at work, two loops open with one iterator
   pub passing : PassingSharesNone
-  pub one_at_aTime : OneLoopAtATime
+  pub one_at_a_time : OneLoopAtATime
   -- such tables, as any that is refused, are not run, and not written or reduced
   pub running : (m : MachineKind) (t : List ℕ) (number place : ℕ) → table_check m t ≡ Refused number place → RunsRefuse m t number place
   pub plain_tables : (t : List ℕ) (number place : ℕ) → table_check plain t ≡ Refused number place → PlainRefused t number place
