@@ -16,8 +16,7 @@ use Rattle.lists.proofs.BoolLaws.{and_left, and_right}
 use Rattle.model.specs.Table.{Table, is_opening, at_end, home, counted, opening}
 use Rattle.model.specs.State.{Caller, State}
 use Rattle.model.specs.Step.{no_callers, finished}
-use Rattle.model.specs.Accepted.{Accepted, CanHave, Stacked}
-use Rattle.model.specs.EmptyClasses.{StateAfter}
+use Rattle.model.specs.Accepted.{Stacked}
 use Rattle.model.specs.MainEnd.{AtMainEnd, DoneAtMainEnd}
 use Rattle.model.proofs.Homes.{opening-is}
 use Rattle.model.proofs.EmptyClassLaws.{after-can}

@@ -14,11 +14,11 @@ use Rattle.model.specs.Table.{Table}
 use Rattle.model.specs.Work.{Out}
 use Rattle.model.specs.Work.Out.{gives, fails, bad_choice, no_choice, stuck}
 use Rattle.model.specs.State.{State}
-use Rattle.model.specs.Step.{End, Move, Report, after, finished, step, run}
+use Rattle.model.specs.Step.{Move, Report, after, finished, step, run}
 use Rattle.model.specs.Step.End.{done, failed, out_of_steps}
 use Rattle.model.specs.Step.Move.{to, stop}
 use Rattle.model.specs.Step.Report.{ended, no_end}
-use Rattle.model.specs.RunsInParts.{is_out, counted_from, lesser, go_on, next_turn, in_turns, PartsAreOneRun, TurnsAreOneRun}
+use Rattle.model.specs.RunsInParts.{is_out, counted_from, lesser, go_on, next_turn, PartsAreOneRun, TurnsAreOneRun}
 use Rattle.model.proofs.Memory.{split}
 use Rattle.model.proofs.StepSizes.{step-cells, step-stops}
 

@@ -23,7 +23,7 @@ use Rattle.model.specs.Eval.{Ptr, array_of, variable_of, value, keeps, index_of,
 use Rattle.model.specs.Step.{End, Move, past, node, set_var, with_var, with_array, with_loops, enter, put, write, reduced_write, laid_next, add_array}
 use Rattle.model.specs.Step.{new_array, loop_at, repeat_loop, row_rule, step_at, step, past_end, first_row, hand_over, argument, with_work, call_procedure}
 use Rattle.model.specs.Step.{give_back}
-use Rattle.model.specs.Step.End.{assert_false, assume_false, want_of_cells, too_deep}
+use Rattle.model.specs.Step.End.{assert_false, assume_false, want_of_cells}
 use Rattle.model.specs.Step.Move.{to, stop}
 use Rattle.model.specs.RunsInParts.{is_out}
 use Rattle.model.proofs.Memory.{cleared-length, snoc-length}

@@ -1,6 +1,5 @@
 -- `entry_of` meets its contract: the table, and 0 past it.
 -- Assumes nothing.
-use borrow.Author.Rules.{rules}
 use mathlib.Core.Path.{refl, sym}
 use lib.ListN.{get_or-eq_default}
 use Rattle.kinds.specs.Code.{entries}

@@ -1,6 +1,5 @@
 -- `is_marked` meets its contract: the calls give what the definition names.
 -- Assumes nothing.
-use borrow.Author.Rules.{rules}
 use Rattle.model.specs.Table.{marked}
 use Rattle.kinds.proofs.is_marked.Goals as goal
 

@@ -1,6 +1,5 @@
 -- `marking_of` meets its contract: a digit of the entry.
 -- Assumes nothing.
-use borrow.Author.Rules.{rules}
 use Rattle.kinds.proofs.KindLaws.{marking-at}
 use Rattle.kinds.proofs.marking_of.Goals as goal
 

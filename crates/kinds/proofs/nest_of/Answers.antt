@@ -1,6 +1,5 @@
 -- `nest_of` meets its contract: a digit of the entry.
 -- Assumes nothing.
-use borrow.Author.Rules.{rules}
 use Rattle.kinds.proofs.KindLaws.{nest-at}
 use Rattle.kinds.proofs.nest_of.Goals as goal
 

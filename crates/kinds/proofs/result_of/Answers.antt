@@ -1,6 +1,5 @@
 -- `result_of` meets its contract: a digit of the entry.
 -- Assumes nothing.
-use borrow.Author.Rules.{rules}
 use Rattle.kinds.proofs.KindLaws.{result-at}
 use Rattle.kinds.proofs.result_of.Goals as goal
 

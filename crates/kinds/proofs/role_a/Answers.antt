@@ -1,6 +1,5 @@
 -- `role_a` meets its contract: a digit of the entry.
 -- Assumes nothing.
-use borrow.Author.Rules.{rules}
 use Rattle.kinds.proofs.KindLaws.{role-a-at}
 use Rattle.kinds.proofs.role_a.Goals as goal
 

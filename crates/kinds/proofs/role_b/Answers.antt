@@ -1,6 +1,5 @@
 -- `role_b` meets its contract: a digit of the entry.
 -- Assumes nothing.
-use borrow.Author.Rules.{rules}
 use Rattle.kinds.proofs.KindLaws.{role-b-at}
 use Rattle.kinds.proofs.role_b.Goals as goal
 

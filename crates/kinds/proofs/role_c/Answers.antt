@@ -1,6 +1,5 @@
 -- `role_c` meets its contract: a digit of the entry.
 -- Assumes nothing.
-use borrow.Author.Rules.{rules}
 use Rattle.kinds.proofs.KindLaws.{role-c-at}
 use Rattle.kinds.proofs.role_c.Goals as goal
 

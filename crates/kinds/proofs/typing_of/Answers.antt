@@ -1,6 +1,5 @@
 -- `typing_of` meets its contract: a digit of the entry.
 -- Assumes nothing.
-use borrow.Author.Rules.{rules}
 use Rattle.kinds.proofs.KindLaws.{typing-at}
 use Rattle.kinds.proofs.typing_of.Goals as goal
 

@@ -7,11 +7,12 @@ use borrow.Author.Tests.{le-leb, lt-leb}
 use Rattle.row_kinds.specs.CodeRows.{on_uint, called_of}
 use Rattle.row_kinds.proofs.PutLaws.{lost-uint}
 use borrow.Author.Rules.{rules}
+use Rattle.evaluators.proofs.OtherAnswers.{answer-no-uint}
 use Rattle.row_kinds.proofs.calling.called.Goals as goal
 
 pub returns-in_default : goal.returns-in_default
 unfolding called_of
-returns-in_default c = c.lost.ensures ∙ lost-uint _ _ c.in_default.is
+returns-in_default c = c.lost.ensures ∙ lost-uint _ _ (answer-no-uint _ c.in_default.not-Uint)
 
 pub returns-then-depth-ge-CALLERS : goal.returns-then-depth-ge-CALLERS
 unfolding on_uint called_of

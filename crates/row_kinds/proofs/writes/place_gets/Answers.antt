@@ -15,4 +15,4 @@ returns-then-tracking-reduced c = rw (lt-ltb _ _ c.if-len-p.false, c.if-tracking
 
 pub returns : goal.returns
 unfolding place_gets
-returns c = rw (lt-ltb _ _ c.if-len-p.false, c.if-tracking-reduced.false, ← c.size_for_lem.ensures) c.cell_gets.ensures
+returns c = rw (lt-ltb _ _ c.if-len-p.false, c.if-tracking-reduced.false, ← c.size_for.ensures) c.cell_gets.ensures
