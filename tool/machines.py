@@ -13,7 +13,7 @@ from array import array
 
 from program import ASSERT, BOOL, NEW, NEW_REDUCED, NOTHING, POINTER, SET
 
-BIN = os.path.join(os.path.dirname(os.path.dirname(os.path.abspath(__file__))), "target", "bin")
+CRATES = os.path.join(os.path.dirname(os.path.dirname(os.path.abspath(__file__))), "crates")
 READ, WRITE_FILE, REDUCE, RUN, GO_ON, RUN_REDUCED, GO_ON_REDUCED, CHOICES = range(8)
 ENDS = ("done", "assert", "assume", "fail", "room", "steps", "badchoice", "nochoice", "full", "deep")
 PLAIN_CELLS, REDUCED_CELLS = 4096, 4128
@@ -35,12 +35,17 @@ class Broken(Exception):
     """A program that did not answer, or something that could not be read or written."""
 
 
+def built(name):
+    """Where a proved program is built."""
+    return os.path.join(CRATES, name, "out", name)
+
+
 class Machines:
-    """The conversation with benchrun."""
+    """The conversation with benchrun. What it says on standard error, as where nobody reads its answer any more, goes nowhere."""
 
     def __init__(self):
         try:
-            self.process = subprocess.Popen([os.path.join(BIN, "benchrun")], stdin=subprocess.PIPE, stdout=subprocess.PIPE)
+            self.process = subprocess.Popen([built("benchrun")], stdin=subprocess.PIPE, stdout=subprocess.PIPE, stderr=subprocess.DEVNULL)
         except OSError as error:
             raise Broken("benchrun cannot be started: %s" % error.strerror)
 
@@ -313,7 +318,7 @@ class Probe:
 def long_list(words, c1, c2, limit, room):
     """The choice writer with a list of any length: head and numbers of the answer."""
     body = struct.pack("<8I", CHOICES, c1, c2, limit, len(words), room, 0, 0) + words.tobytes()
-    command = ["bash", "-c", 'ulimit -s unlimited 2>/dev/null || ulimit -s "$(ulimit -H -s)"; exec "$0"', os.path.join(BIN, "benchwrite")]
+    command = ["bash", "-c", 'ulimit -s unlimited 2>/dev/null || ulimit -s "$(ulimit -H -s)"; exec "$0"', built("benchwrite")]
     done = subprocess.run(command, input=struct.pack("<I", len(body)) + body, stdout=subprocess.PIPE, stderr=subprocess.PIPE)
     if done.returncode or len(done.stdout) < 32:
         raise Broken("there is not enough memory for a list of %d numbers" % room)

@@ -1,7 +1,7 @@
 #!/usr/bin/env python3
 """Respells the definitions and lemmas of this repository: lowerCamel words become snake_case, in specs/ and proofs/ and in the clauses of src/.
 
-usage: python3 tools/respell.py        at the top of the repository, once, right after /opt/rattle/port/port.py
+usage: python3 tools/respell.py        at the top of the repository, once, right after port.py of the Rattle kit
 
 A lemma whose words port.py joined by underscores, and whose name would fall together with a respelled word, has its hyphens again: APART.
 Functions, fields and strings of src/ keep their names: a word of src/ is respelled only if it stands in specs/ or proofs/ too.
