@@ -196,10 +196,8 @@ fn cells_of(what: u32) -> usize
 
 // Puts words into the cells, and 0 into those past them.
 fn put_cells(cells: &mut [u32], words: &[u32]) {
-    let mut i: usize = 0;
-    while i < cells.len() {
+    for i in 0..cells.len() {
         cells[i] = word_or_zero(words, i);
-        i += 1;
     }
 }
 

@@ -46,10 +46,8 @@ struct Kept {
 
 fn with_loops(mut h: u32, m: Machine) -> u32 {
     let open = m.open as usize;
-    let mut i: usize = 0;
-    while i < 8 && i < open {
+    for i in 0..open.min(8) {
         h = mixed(mixed(mixed(h, m.loop_rows[i]), m.starts[i]), m.ends[i]);
-        i += 1;
     }
     h
 }
@@ -71,14 +69,12 @@ fn with_variable(h: u32, kind: u32, number: u32, base: u32) -> u32 {
 }
 
 fn with_variables(mut h: u32, m: Machine, t: &[u32]) -> u32 {
-    let mut i: usize = 0;
-    while i < 32 {
+    for i in 0..32 {
         let kind = kind_of(t, i);
         if kind < 1 || 3 < kind {
             return h;
         }
         h = with_variable(h, kind, m.numbers[i], m.bases[i]);
-        i += 1;
     }
     h
 }
@@ -92,13 +88,11 @@ fn shape_word(shape: u8) -> u32 {
 
 fn with_arrays(mut h: u32, m: Machine) -> u32 {
     let count = m.count as usize;
-    let mut i: usize = 0;
-    while i < 16 && i < count {
+    for i in 0..count.min(16) {
         h = mixed(
             mixed(mixed(h, m.firsts[i]), m.lengths[i]),
             shape_word(m.shapes[i]),
         );
-        i += 1;
     }
     h
 }
@@ -128,10 +122,8 @@ fn with_kept_locals(mut h: u32, stack: &[u32; STACK], at: usize, count: u32) -> 
     requires { at ≤ 210 }
 {
     let locals = count as usize;
-    let mut i: usize = 0;
-    while i < 4 && i < locals {
+    for i in 0..locals.min(4) {
         h = mixed(h, stack[at + 2 + i]);
-        i += 1;
     }
     h
 }
@@ -141,13 +133,11 @@ fn with_kept_loops(mut h: u32, stack: &[u32; STACK], at: usize) -> u32
     requires { at ≤ 210 }
 {
     let open = size(stack[at + 1]);
-    let mut i: usize = 0;
-    while i < 8 && i < open {
+    for i in 0..open.min(8) {
         h = mixed(
             mixed(mixed(h, stack[at + 6 + i]), stack[at + 14 + i]),
             stack[at + 22 + i],
         );
-        i += 1;
     }
     h
 }
@@ -164,10 +154,8 @@ fn with_caller(h: u32, stack: &[u32; STACK], at: usize, t: &[u32]) -> u32
 // The callers, the one in main first.
 fn with_callers(mut h: u32, stack: &[u32; STACK], t: &[u32]) -> u32 {
     let callers = size(stack[DEPTH]);
-    let mut d: usize = 0;
-    while d < 8 && d < callers {
+    for d in 0..callers.min(8) {
         h = with_caller(h, stack, CALLER * d, t);
-        d += 1;
     }
     h
 }
@@ -341,10 +329,8 @@ fn continued_run(
 // The first run, as often as asked; the last of them is the one that counts.
 fn first_run(q: Asked, t: &[u32], cells: &mut [u32], list: &[u32], limit: u32) -> Answered {
     let times = q.times;
-    let mut k: u32 = 1;
-    while k < times {
+    for _ in 1..times {
         fresh_run(q, t, cells, list, limit);
-        k += 1;
     }
     fresh_run(q, t, cells, list, limit)
 }

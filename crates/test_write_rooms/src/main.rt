@@ -35,10 +35,8 @@ fn print_word<W: Write>(to: &mut W, word: u32) {
 }
 
 fn print_list<W: Write>(to: &mut W, list: &[u32]) {
-    let mut i: usize = 0;
-    while i < list.len() {
+    for i in 0..list.len() {
         print_word(to, list[i]);
-        i += 1;
     }
     print(to, b"\n");
 }
@@ -84,10 +82,8 @@ fn write_room<W: Write>(to: &mut W, t: &[u32], room: usize)
 }
 
 fn write_rooms<W: Write>(to: &mut W, t: &[u32]) {
-    let mut room: usize = 0;
-    while room <= MOST {
+    for room in 0..MOST + 1 {
         write_room(to, t, room);
-        room += 1;
     }
 }
 

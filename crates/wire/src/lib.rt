@@ -137,14 +137,12 @@ fn send_chunk<W: Write>(to: &mut W, space: &mut [u8], words: &[u32]) -> bool {
 // Writes words as bytes: whether all were written.
 pub fn send_words<W: Write>(to: &mut W, words: &[u32]) -> bool {
     let mut space = [0u8; 4096];
-    let mut rest = &words[..];
-    while CHUNK < rest.len() {
-        if !send_chunk(to, &mut space, &rest[..CHUNK]) {
+    for part in words.chunks(CHUNK) {
+        if !send_chunk(to, &mut space, part) {
             return false;
         }
-        rest = &rest[CHUNK..];
     }
-    send_chunk(to, &mut space, rest)
+    true
 }
 
 // Heads
