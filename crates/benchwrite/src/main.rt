@@ -7,6 +7,8 @@
 use lists::word_or_zero;
 use machine::Machine;
 use runs::Answered;
+ghost use Rattle.std.specs.Prelude.{◌≤◌};
+
 use std::io::Write;
 use wire::{head_of, send_words, size};
 
@@ -65,28 +67,32 @@ fn write<W: Write>(to: &mut W, q: Asked, t: &[u32], list: &mut [u32]) {
     send(to, a, list);
 }
 
-fn in_short<W: Write>(to: &mut W, q: Asked, t: &[u32], n: usize) {
-    if SHORT < n {
+// The same, in the first n numbers of a longer list.
+fn write_front<W: Write>(to: &mut W, q: Asked, t: &[u32], list: &mut [u32], n: usize) {
+    if list.len() < n {
         return;
     }
-    let mut list = [0u32; SHORT];
     write(to, q, t, &mut list[..n]);
+}
+
+// The choices, into the first n numbers of a list of N.
+fn in_list<const N: usize, W: Write>(to: &mut W, q: Asked, t: &[u32], n: usize)
+    requires { N ≤ 268435456 }
+{
+    let mut list = [0u32; N];
+    write_front(to, q, t, &mut list, n);
+}
+
+fn in_short<W: Write>(to: &mut W, q: Asked, t: &[u32], n: usize) {
+    in_list::<SHORT, W>(to, q, t, n);
 }
 
 fn in_middle<W: Write>(to: &mut W, q: Asked, t: &[u32], n: usize) {
-    if MIDDLE < n {
-        return;
-    }
-    let mut list = [0u32; MIDDLE];
-    write(to, q, t, &mut list[..n]);
+    in_list::<MIDDLE, W>(to, q, t, n);
 }
 
 fn in_long<W: Write>(to: &mut W, q: Asked, t: &[u32], n: usize) {
-    if LONG < n {
-        return;
-    }
-    let mut list = [0u32; LONG];
-    write(to, q, t, &mut list[..n]);
+    in_list::<LONG, W>(to, q, t, n);
 }
 
 // How long the list of a tier is.
