@@ -4,11 +4,11 @@
 // The list is on the stack, so the one who starts the program raises the limit of the stack first.
 #![tactic(auto)]
 
+ghost use Rattle.std.specs.Prelude.{◌≤◌};
+
 use lists::word_or_zero;
 use machine::Machine;
 use runs::Answered;
-ghost use Rattle.std.specs.Prelude.{◌≤◌};
-
 use std::io::Write;
 use wire::{head_of, send_words, size};
 

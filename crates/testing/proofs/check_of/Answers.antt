@@ -1,5 +1,5 @@
 -- Word by word.
-use Rattle.std.proofs.Common.{length, arith}
+use Rattle.std.proofs.Common.{arith}
 use Rattle.testing.proofs.TestLaws.{check-more, check-all}
 use Rattle.testing.proofs.check_of.Goals as goal
 

@@ -1,5 +1,5 @@
 -- Byte by byte.
-use Rattle.std.proofs.Common.{length, arith, ap, ◌∙◌}
+use Rattle.std.proofs.Common.{arith, ap, ◌∙◌}
 use Rattle.testing.specs.Checks.{mixed_with}
 use Rattle.testing.proofs.TestLaws.{check-more, check-all}
 use Rattle.testing.proofs.check_of_bytes.Goals as goal

@@ -1,5 +1,5 @@
 -- Word by word.
-use Rattle.std.proofs.Common.{length, arith, rules}
+use Rattle.std.proofs.Common.{arith, rules}
 use Rattle.lists.proofs.TabLaws.{tab-none, tab-more}
 use Rattle.wire.proofs.put_words.Goals as goal
 
