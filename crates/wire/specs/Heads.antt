@@ -3,6 +3,7 @@ use Rattle.std.specs.Prelude.{ℕ, ◌/◌, ◌%◌, ◌^◌, List, [], ◌∷�
 use Rattle.model.specs.Work.{reason_number}
 use Rattle.evaluators.specs.Reasons.{reason_of}
 use Rattle.machine.specs.declared.End.{End}
+use Rattle.machine.specs.declared.End.TheVariants as End
 use Rattle.table.specs.declared.Verdict.{Verdict}
 use Rattle.table.specs.declared.Verdict.TheVariants.{Passes, Refused}
 use Rattle.runs.specs.declared.Ran.{Ran}
