@@ -22,6 +22,7 @@ use lists::word_or_zero;
 use machine::Machine;
 use record_words::{put_at, put_record, record_of};
 use runs::Answered;
+use std::io::{Read, Write};
 use table::Verdict;
 use wire::{head_of, send_words, size, word};
 
@@ -85,13 +86,13 @@ fn asked_by(w: &[u32]) -> Asked {
 
 // Puts the length of an answer and its head in front; so many bytes follow them.
 fn put_head(out: &mut [u32], head: [u32; 8], bytes: u32) {
-    let length = [std::num::wrapping_add_u32(bytes, 32)];
+    let length = [bytes.wrapping_add(32)];
     put_at(out, 0, &length);
     put_at(out, 1, &head);
 }
 
 // Sends a head and the first n words that stand after its place: whether all was written.
-fn send(out: &mut [u32], head: [u32; 8], n: usize) -> bool {
+fn send<W: Write>(to: &mut W, out: &mut [u32], head: [u32; 8], n: usize) -> bool {
     if WORDS < n {
         return false;
     }
@@ -100,7 +101,7 @@ fn send(out: &mut [u32], head: [u32; 8], n: usize) -> bool {
     if out.len() < end {
         return false;
     }
-    send_words(&out[..end])
+    send_words(to, &out[..end])
 }
 
 fn refusal(number: u32, place: u32) -> [u32; 8] {
@@ -118,19 +119,19 @@ fn count(n: u32) -> [u32; 8] {
 
 // Files
 
-fn read(s: &[u8], out: &mut [u32]) -> bool {
+fn read<W: Write>(to: &mut W, s: &[u8], out: &mut [u32]) -> bool {
     if out.len() < TABLE_END {
         return false;
     }
     let r = file::read_file(s, &mut out[BODY..TABLE_END]);
     match r {
-        file::Read::Refused(number, place) => send(out, refusal(number, place), 0),
-        file::Read::Lines(n) => send(out, count(n), 4 * size(n)),
+        file::Read::Refused(number, place) => send(to, out, refusal(number, place), 0),
+        file::Read::Lines(n) => send(to, out, count(n), 4 * size(n)),
     }
 }
 
 // Sends a head and the first n bytes of a file.
-fn send_file(out: &mut [u32], lent: &[u8], n: u32) -> bool {
+fn send_file<W: Write>(to: &mut W, out: &mut [u32], lent: &[u8], n: u32) -> bool {
     let end = size(n);
     if lent.len() < end {
         return false;
@@ -139,20 +140,25 @@ fn send_file(out: &mut [u32], lent: &[u8], n: u32) -> bool {
     if out.len() < BODY {
         return false;
     }
-    send_words(&out[..BODY]) && io::write_all(1, &lent[..end])
+    send_words(to, &out[..BODY]) && to.write_all(&lent[..end]).is_ok()
 }
 
-fn write(t: &[u32], out: &mut [u32], lent: &mut [u8]) -> bool {
+fn write<W: Write>(to: &mut W, t: &[u32], out: &mut [u32], lent: &mut [u8]) -> bool {
     let w = file::write_file(t, lent);
     match w {
-        file::Written::Refused(number, place) => send(out, refusal(number, place_word(place)), 0),
-        file::Written::Bytes(n) => send_file(out, lent, n),
+        file::Written::Refused(number, place) => send(
+            to,
+            out,
+            refusal(number, place_word(place)),
+            0,
+        ),
+        file::Written::Bytes(n) => send_file(to, out, lent, n),
     }
 }
 
 // The reduction
 
-fn reduce(q: Asked, t: &[u32], out: &mut [u32]) -> bool {
+fn reduce<W: Write>(to: &mut W, q: Asked, t: &[u32], out: &mut [u32]) -> bool {
     let n = t.len();
     if WORDS < n {
         return false;
@@ -163,8 +169,8 @@ fn reduce(q: Asked, t: &[u32], out: &mut [u32]) -> bool {
     }
     let v = reduction::reduce_table(t, q.c1, q.c2, &mut out[BODY..end]);
     match v {
-        Verdict::Refused(number, place) => send(out, refusal(number, place_word(place)), 0),
-        Verdict::Passes => send(out, count(0), n),
+        Verdict::Refused(number, place) => send(to, out, refusal(number, place_word(place)), 0),
+        Verdict::Passes => send(to, out, count(0), n),
     }
 }
 
@@ -190,10 +196,8 @@ fn cells_of(what: u32) -> usize
 
 // Puts words into the cells, and 0 into those past them.
 fn put_cells(cells: &mut [u32], words: &[u32]) {
-    let mut i: usize = 0;
-    while i < cells.len() {
+    for i in 0..cells.len() {
         cells[i] = word_or_zero(words, i);
-        i += 1;
     }
 }
 
@@ -233,26 +237,33 @@ fn shown(q: Asked) -> usize
 }
 
 // Sends what a run came to, its record and its cells, which stand in their place.
-fn send_run(q: Asked, a: Answered, out: &mut [u32]) -> bool {
+fn send_run<W: Write>(to: &mut W, q: Asked, a: Answered, out: &mut [u32]) -> bool {
     let v = a.verdict;
     let Verdict::Passes = v else {
-        return send(out, head_of(a), 0);
+        return send(to, out, head_of(a), 0);
     };
     let r = a.ran;
     if out.len() < CELLS_AT {
         return false;
     }
     put_record(&mut out[BODY..CELLS_AT], r.record);
-    send(out, head_of(a), record_words::WORDS + shown(q))
+    send(to, out, head_of(a), record_words::WORDS + shown(q))
 }
 
-fn run_in(q: Asked, t: &[u32], list: &[u32], kept: &[u32], out: &mut [u32]) -> bool {
+fn run_in<W: Write>(
+    to: &mut W,
+    q: Asked,
+    t: &[u32],
+    list: &[u32],
+    kept: &[u32],
+    out: &mut [u32],
+) -> bool {
     let end = CELLS_AT + cells_of(q.what);
     if out.len() < end {
         return false;
     }
     let a = ran(q, t, list, kept, &mut out[CELLS_AT..end]);
-    send_run(q, a, out)
+    send_run(to, q, a, out)
 }
 
 // Whether what follows the choices is as long as it should be.
@@ -265,7 +276,7 @@ fn kept_fits(q: Asked, n: usize) -> bool {
 }
 
 // The list and the kept state after the table.
-fn run(q: Asked, t: &[u32], after: &[u32], out: &mut [u32]) -> bool {
+fn run<W: Write>(to: &mut W, q: Asked, t: &[u32], after: &[u32], out: &mut [u32]) -> bool {
     let n = q.list;
     if after.len() < n {
         return false;
@@ -274,7 +285,7 @@ fn run(q: Asked, t: &[u32], after: &[u32], out: &mut [u32]) -> bool {
     if !kept_fits(q, kept.len()) {
         return false;
     }
-    run_in(q, t, &after[..n], kept, out)
+    run_in(to, q, t, &after[..n], kept, out)
 }
 
 // What a message with a file asks for: a plain run.
@@ -292,29 +303,29 @@ fn asked_of_file(s: &[u8]) -> Asked {
 }
 
 // A run of the table that is the first n words.
-fn run_first(q: Asked, words: &[u32], n: usize, out: &mut [u32]) -> bool {
+fn run_first<W: Write>(to: &mut W, q: Asked, words: &[u32], n: usize, out: &mut [u32]) -> bool {
     let none = [0u32; 0];
     if words.len() < n {
         return false;
     }
-    run_in(q, &words[..n], &none, &none, out)
+    run_in(to, q, &words[..n], &none, &none, out)
 }
 
 // A run of the table in a file, which is read into a lent buffer.
-fn run_file(s: &[u8], words: &mut [u32], out: &mut [u32]) -> bool {
+fn run_file<W: Write>(to: &mut W, s: &[u8], words: &mut [u32], out: &mut [u32]) -> bool {
     if words.len() < TABLE || s.len() < HEAD_BYTES {
         return false;
     }
     let r = file::read_file(&s[HEAD_BYTES..], &mut words[..TABLE]);
     match r {
-        file::Read::Refused(number, place) => send(out, refusal(number, place), 0),
-        file::Read::Lines(n) => run_first(asked_of_file(s), words, 4 * size(n), out),
+        file::Read::Refused(number, place) => send(to, out, refusal(number, place), 0),
+        file::Read::Lines(n) => run_first(to, asked_of_file(s), words, 4 * size(n), out),
     }
 }
 
 // Choices
 
-fn choose(q: Asked, t: &[u32], out: &mut [u32]) -> bool {
+fn choose<W: Write>(to: &mut W, q: Asked, t: &[u32], out: &mut [u32]) -> bool {
     let n = q.list;
     if LIST < n {
         return false;
@@ -326,63 +337,75 @@ fn choose(q: Asked, t: &[u32], out: &mut [u32]) -> bool {
     let mut cells = [0u32; Machine::PLAIN_CELLS];
     let a = choices::write_choices(t, q.c1, q.c2, &mut cells, &mut out[BODY..end], q.limit);
     let head = head_of(a);
-    send(out, head, size(head[USED]))
+    send(to, out, head, size(head[USED]))
 }
 
 // Messages
 
 // What is asked of a table alone.
-fn of_table(q: Asked, t: &[u32], out: &mut [u32], lent: &mut [u8]) -> bool {
+fn of_table<W: Write>(to: &mut W, q: Asked, t: &[u32], out: &mut [u32], lent: &mut [u8]) -> bool {
     let what = q.what;
     match what {
-        1 => write(t, out, lent),
-        2 => reduce(q, t, out),
-        7 => choose(q, t, out),
+        1 => write(to, t, out, lent),
+        2 => reduce(to, q, t, out),
+        7 => choose(to, q, t, out),
         _ => false,
     }
 }
 
 // The table, and what stands after it.
-fn of_body(q: Asked, body: &[u32], out: &mut [u32], lent: &mut [u8]) -> bool {
+fn of_body<W: Write>(to: &mut W, q: Asked, body: &[u32], out: &mut [u32], lent: &mut [u8]) -> bool {
     let n = q.table;
     if body.len() < n {
         return false;
     }
     let what = q.what;
     if 3 <= what && what <= 6 {
-        return run(q, &body[..n], &body[n..], out);
+        return run(to, q, &body[..n], &body[n..], out);
     }
     if body.len() != n {
         return false;
     }
-    of_table(q, body, out, lent)
+    of_table(to, q, body, out, lent)
 }
 
 // The head, and what stands after it.
-fn answer_words(w: &[u32], out: &mut [u32], lent: &mut [u8]) -> bool {
+fn answer_words<W: Write>(to: &mut W, w: &[u32], out: &mut [u32], lent: &mut [u8]) -> bool {
     if w.len() < HEAD {
         return false;
     }
-    of_body(asked_by(w), &w[HEAD..], out, lent)
+    of_body(to, asked_by(w), &w[HEAD..], out, lent)
 }
 
 // Puts the words of a message into a lent buffer, and answers.
-fn filled(words: &mut [u32], s: &[u8], out: &mut [u32], lent: &mut [u8]) -> bool {
+fn filled<W: Write>(
+    to: &mut W,
+    words: &mut [u32],
+    s: &[u8],
+    out: &mut [u32],
+    lent: &mut [u8],
+) -> bool {
     wire::put_words(words, s);
-    answer_words(words, out, lent)
+    answer_words(to, words, out, lent)
 }
 
 // Answers a message: whether it fits, and the answer was written.
-fn answer(s: &[u8], words: &mut [u32], out: &mut [u32], lent: &mut [u8]) -> bool {
+fn answer<W: Write>(
+    to: &mut W,
+    s: &[u8],
+    words: &mut [u32],
+    out: &mut [u32],
+    lent: &mut [u8],
+) -> bool {
     if s.len() < HEAD_BYTES {
         return false;
     }
     let what = word(s, 0);
     if what == 0 {
-        return read(&s[HEAD_BYTES..], out);
+        return read(to, &s[HEAD_BYTES..], out);
     }
     if what == 8 {
-        return run_file(s, words, out);
+        return run_file(to, s, words, out);
     }
     let n = s.len() / 4;
     if s.len() % 4 != 0 {
@@ -391,26 +414,38 @@ fn answer(s: &[u8], words: &mut [u32], out: &mut [u32], lent: &mut [u8]) -> bool
     if words.len() < n {
         return false;
     }
-    filled(&mut words[..n], s, out, lent)
+    filled(to, &mut words[..n], s, out, lent)
 }
 
 // One message: whether there was one that fits, and it was answered.
-fn next(room: &mut [u8], words: &mut [u32], out: &mut [u32], lent: &mut [u8]) -> bool {
-    let m = wire::next_message(room);
+fn next<R: Read, W: Write>(
+    from: &mut R,
+    to: &mut W,
+    room: &mut [u8],
+    words: &mut [u32],
+    out: &mut [u32],
+    lent: &mut [u8],
+) -> bool {
+    let m = wire::next_message(from, room);
     if !m.there {
         return false;
     }
     let n = m.bytes;
-    answer(&room[..n], words, out, lent)
+    answer(to, &room[..n], words, out, lent)
 }
 
-fn main() {
+fn main(rt: HostRuntime) {
     let mut room = [0u8; ROOM];
     let mut words = [0u32; WORDS];
     let mut out = [0u32; OUT];
     let mut lent = [0u8; FILE];
-    let mut k: u32 = 0;
-    while k < 4000000000 && next(&mut room, &mut words, &mut out, &mut lent) {
-        k += 1;
+    let mut from = rt.stdin();
+    let mut to = rt.stdout();
+    for _ in 0..4000000000u32 {
+        if !next(
+            &mut from, &mut to, &mut room, &mut words, &mut out, &mut lent,
+        ) {
+            return;
+        }
     }
 }

@@ -31,40 +31,32 @@ const CALLERS: usize = 139;
 
 fn words_8(w: &[u32]) -> [u32; 8] {
     let mut a = [0u32; 8];
-    let mut i: usize = 0;
-    while i < 8 {
+    for i in 0..8 {
         a[i] = word_or_zero(w, i);
-        i += 1;
     }
     a
 }
 
 fn words_16(w: &[u32]) -> [u32; 16] {
     let mut a = [0u32; 16];
-    let mut i: usize = 0;
-    while i < 16 {
+    for i in 0..16 {
         a[i] = word_or_zero(w, i);
-        i += 1;
     }
     a
 }
 
 fn words_32(w: &[u32]) -> [u32; 32] {
     let mut a = [0u32; 32];
-    let mut i: usize = 0;
-    while i < 32 {
+    for i in 0..32 {
         a[i] = word_or_zero(w, i);
-        i += 1;
     }
     a
 }
 
 fn stack_of(w: &[u32]) -> [u32; STACK] {
     let mut a = [0u32; STACK];
-    let mut i: usize = 0;
-    while i < STACK {
+    for i in 0..STACK {
         a[i] = word_or_zero(w, i);
-        i += 1;
     }
     a
 }
@@ -79,10 +71,8 @@ fn shape_of(w: u32) -> u8 {
 
 fn shapes_of(w: &[u32]) -> [u8; 16] {
     let mut a = [0u8; 16];
-    let mut i: usize = 0;
-    while i < 16 {
+    for i in 0..16 {
         a[i] = shape_of(word_or_zero(w, i));
-        i += 1;
     }
     a
 }
@@ -131,10 +121,8 @@ pub(crate) fn put_at(out: &mut [u32], at: usize, words: &[u32]) {
         return;
     }
     let n = least(words.len(), out.len() - at);
-    let mut i: usize = 0;
-    while i < n {
+    for i in 0..n {
         out[at + i] = words[i];
-        i += 1;
     }
 }
 
@@ -147,10 +135,8 @@ fn put_shapes(out: &mut [u32], at: usize, shapes: &[u8; 16]) {
         return;
     }
     let n = least(16, out.len() - at);
-    let mut i: usize = 0;
-    while i < n {
+    for i in 0..n {
         out[at + i] = wide(shapes[i]);
-        i += 1;
     }
 }
 

@@ -4,9 +4,12 @@
 // The list is on the stack, so the one who starts the program raises the limit of the stack first.
 #![tactic(auto)]
 
+ghost use Rattle.std.specs.Prelude.{◌≤◌};
+
 use lists::word_or_zero;
 use machine::Machine;
 use runs::Answered;
+use std::io::Write;
 use wire::{head_of, send_words, size};
 
 // The bytes and words of the longest message.
@@ -46,46 +49,50 @@ fn asked_by(w: &[u32]) -> Asked {
 }
 
 // Sends what the writer came to, and the numbers.
-fn send(a: Answered, list: &[u32]) {
+fn send<W: Write>(to: &mut W, a: Answered, list: &[u32]) {
     let head = head_of(a);
     let n = size(head[USED]);
     if list.len() < n {
         return;
     }
-    if send_words(&head) {
-        send_words(&list[..n]);
+    if send_words(to, &head) {
+        send_words(to, &list[..n]);
     }
 }
 
 // The choices, into a lent list.
-fn write(q: Asked, t: &[u32], list: &mut [u32]) {
+fn write<W: Write>(to: &mut W, q: Asked, t: &[u32], list: &mut [u32]) {
     let mut cells = [0u32; Machine::PLAIN_CELLS];
     let a = choices::write_choices(t, q.c1, q.c2, &mut cells, list, q.limit);
-    send(a, list);
+    send(to, a, list);
 }
 
-fn in_short(q: Asked, t: &[u32], n: usize) {
-    if SHORT < n {
+// The same, in the first n numbers of a longer list.
+fn write_front<W: Write>(to: &mut W, q: Asked, t: &[u32], list: &mut [u32], n: usize) {
+    if list.len() < n {
         return;
     }
-    let mut list = [0u32; SHORT];
-    write(q, t, &mut list[..n]);
+    write(to, q, t, &mut list[..n]);
 }
 
-fn in_middle(q: Asked, t: &[u32], n: usize) {
-    if MIDDLE < n {
-        return;
-    }
-    let mut list = [0u32; MIDDLE];
-    write(q, t, &mut list[..n]);
+// The choices, into the first n numbers of a list of N.
+fn in_list<const N: usize, W: Write>(to: &mut W, q: Asked, t: &[u32], n: usize)
+    requires { N ≤ 268435456 }
+{
+    let mut list = [0u32; N];
+    write_front(to, q, t, &mut list, n);
 }
 
-fn in_long(q: Asked, t: &[u32], n: usize) {
-    if LONG < n {
-        return;
-    }
-    let mut list = [0u32; LONG];
-    write(q, t, &mut list[..n]);
+fn in_short<W: Write>(to: &mut W, q: Asked, t: &[u32], n: usize) {
+    in_list::<SHORT, W>(to, q, t, n);
+}
+
+fn in_middle<W: Write>(to: &mut W, q: Asked, t: &[u32], n: usize) {
+    in_list::<MIDDLE, W>(to, q, t, n);
+}
+
+fn in_long<W: Write>(to: &mut W, q: Asked, t: &[u32], n: usize) {
+    in_list::<LONG, W>(to, q, t, n);
 }
 
 // How long the list of a tier is.
@@ -99,9 +106,9 @@ fn room_of(tier: u32) -> usize {
 
 // Writes the choices into the list of a tier, or into that of a lower one that is long enough: whether one was. It calls itself before it
 // lends a list: so a compiler keeps the lists in frames of their own, and a short one takes no more than its own room.
-fn lend(q: Asked, t: &[u32], tier: u32) -> bool {
+fn lend<W: Write>(to: &mut W, q: Asked, t: &[u32], tier: u32) -> bool {
     if 0 < tier {
-        if lend(q, t, tier - 1) {
+        if lend(to, q, t, tier - 1) {
             return true;
         }
     }
@@ -110,15 +117,15 @@ fn lend(q: Asked, t: &[u32], tier: u32) -> bool {
         return false;
     }
     match tier {
-        0 => in_short(q, t, n),
-        1 => in_middle(q, t, n),
-        _ => in_long(q, t, n),
+        0 => in_short(to, q, t, n),
+        1 => in_middle(to, q, t, n),
+        _ => in_long(to, q, t, n),
     }
     true
 }
 
 // The table of a message.
-fn answer(w: &[u32]) {
+fn answer<W: Write>(to: &mut W, w: &[u32]) {
     if w.len() < HEAD {
         return;
     }
@@ -126,16 +133,16 @@ fn answer(w: &[u32]) {
     if word_or_zero(w, 0) != 7 || size(word_or_zero(w, 4)) != t.len() {
         return;
     }
-    lend(asked_by(w), t, 2);
+    lend(to, asked_by(w), t, 2);
 }
 
 // Puts the words of a message into a lent buffer, and answers.
-fn filled(words: &mut [u32], s: &[u8]) {
+fn filled<W: Write>(to: &mut W, words: &mut [u32], s: &[u8]) {
     wire::put_words(words, s);
-    answer(words);
+    answer(to, words);
 }
 
-fn words_of(s: &[u8]) {
+fn words_of<W: Write>(to: &mut W, s: &[u8]) {
     let n = s.len() / 4;
     if s.len() % 4 != 0 {
         return;
@@ -144,14 +151,14 @@ fn words_of(s: &[u8]) {
         return;
     }
     let mut words = [0u32; WORDS];
-    filled(&mut words[..n], s);
+    filled(to, &mut words[..n], s);
 }
 
-fn main() {
+fn main(rt: HostRuntime) {
     let mut room = [0u8; ROOM];
-    let m = wire::next_message(&mut room);
+    let m = wire::next_message(&mut rt.stdin(), &mut room);
     let n = m.bytes;
     if m.there {
-        words_of(&room[..n]);
+        words_of(&mut rt.stdout(), &room[..n]);
     }
 }

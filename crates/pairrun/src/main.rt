@@ -2,25 +2,59 @@
 // the written choices, or a refusal. An input that cannot be read, or an output that cannot be written whole, gets a line on standard error.
 #![tactic(auto)]
 
+ghost use Rattle.std.specs.Prelude.{◌≤◌, length};
+
 use printing::print_pair;
+use std::io::{Read, Write};
 
 // One byte more than the longest input that is not refused for its length: 12 bytes and a file of 22,016.
 const ROOM: usize = 22029;
 
-// Whether another read fails, as it does where the input cannot be read; at its end a read gives no bytes.
-fn cannot_read() -> bool {
-    let mut byte = [0u8; 1];
-    libc::read(0, &mut byte) < 0
+// How many bytes a read puts at the front of a lent buffer: none at the end of the input, or where it fails.
+fn read_some<R: Read>(from: &mut R, room: &mut [u8]) -> usize
+    ensures { result ≤ length room.new }
+{
+    match from.read(room) {
+        Ok(n) => n,
+        Err(_) => 0,
+    }
 }
 
-fn main() {
+// Reads until a lent buffer is full, the input ends or a read fails: how many bytes were put at the front.
+fn read_full<R: Read>(from: &mut R, room: &mut [u8]) -> usize
+    ensures { result ≤ length room.new }
+{
+    let mut done: usize = 0;
+    while done < room.len() {
+        let n = read_some(from, &mut room[done..]);
+        if n == 0 {
+            return done;
+        }
+        done += n;
+    }
+    done
+}
+
+// Whether another read fails, as it does where the input cannot be read; at its end a read gives no bytes.
+fn cannot_read<R: Read>(from: &mut R) -> bool {
+    let mut byte = [0u8; 1];
+    from.read(&mut byte).is_err()
+}
+
+// Writes a line to standard error; where that fails there is no one to tell.
+fn complain<W: Write>(to: &mut W, line: &[u8]) {
+    let _ = to.write_all(line);
+}
+
+fn main(rt: HostRuntime) {
+    let mut from = rt.stdin();
     let mut input = [0u8; ROOM];
-    let n = io::read_full(0, &mut input);
-    if n < ROOM && cannot_read() {
-        io::write_all(2, b"pairrun: the input cannot be read\n");
+    let n = read_full(&mut from, &mut input);
+    if n < ROOM && cannot_read(&mut from) {
+        complain(&mut rt.stderr(), b"pairrun: the input cannot be read\n");
         return;
     }
-    if !print_pair(&input[..n]) {
-        io::write_all(2, b"pairrun: the output cannot be written\n");
+    if !print_pair(&mut rt.stdout(), &input[..n]) {
+        complain(&mut rt.stderr(), b"pairrun: the output cannot be written\n");
     }
 }

@@ -1,11 +1,12 @@
-// Writes the text for an input to standard output.
+// Writes the text for an input to a writer, as to standard output.
 #![tactic(auto)]
 
+use std::io::Write;
 use text::pair_text;
 
 // Whether all of it was written.
-pub fn print_pair(input: &[u8]) -> bool {
+pub fn print_pair<W: Write>(to: &mut W, input: &[u8]) -> bool {
     let mut out = [0u8; 256];
     let n = pair_text(input, &mut out);
-    io::write_all(1, &out[..n])
+    to.write_all(&out[..n]).is_ok()
 }

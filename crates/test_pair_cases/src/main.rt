@@ -2,23 +2,27 @@
 #![tactic(auto)]
 
 use printing::print_pair;
+use std::io::{Read, Write};
 
 // No case has more bytes.
 const ROOM: usize = 24576;
 
 // One case: whether there was one.
-fn run(room: &mut [u8]) -> bool {
-    let c = wire::next_message(room);
+fn run<R: Read, W: Write>(from: &mut R, to: &mut W, room: &mut [u8]) -> bool {
+    let c = wire::next_message(from, room);
     if c.there {
-        print_pair(&room[..c.bytes]);
+        print_pair(to, &room[..c.bytes]);
     }
     c.there
 }
 
-fn main() {
+fn main(rt: HostRuntime) {
     let mut room = [0u8; ROOM];
-    let mut k: u32 = 0;
-    while k < 100000 && run(&mut room) {
-        k += 1;
+    let mut from = rt.stdin();
+    let mut to = rt.stdout();
+    for _ in 0..100000u32 {
+        if !run(&mut from, &mut to, &mut room) {
+            return;
+        }
     }
 }

@@ -67,12 +67,10 @@ fn same_words(a: &[u32], b: &[u32]) -> bool {
     if a.len() != b.len() {
         return false;
     }
-    let mut i: usize = 0;
-    while i < a.len() {
+    for i in 0..a.len() {
         if a[i] != b[i] {
             return false;
         }
-        i += 1;
     }
     true
 }
@@ -219,10 +217,8 @@ fn all_second_cuts(
     most: u32,
 ) -> u64 {
     let mut same: u64 = 0;
-    let mut n: u32 = 0;
-    while n <= ALL_PAIRS && n <= most {
+    for n in 0..most.min(ALL_PAIRS) + 1 {
         same = sum(same, cut_twice(w, t, list, before, after, cells, m, n));
-        n += 1;
     }
     same
 }
@@ -282,10 +278,8 @@ pub(crate) fn cuts(
 ) -> u64 {
     let last = last_cut(w);
     let mut same: u64 = 0;
-    let mut m: u32 = 0;
-    while m < last {
+    for m in 0..last {
         same = sum(same, cuts_at(w, t, list, before, after, cells, m, last));
-        m += 1;
     }
     sum(same, cuts_at(w, t, list, before, after, cells, last, last))
 }

@@ -12,8 +12,9 @@ use cuts::Whole;
 use lists::word_or_zero;
 use machine::{Machine, Record};
 use runs::{Answered, Ran};
+use std::io::{Read, Write};
 use table::Verdict;
-use testing::{check_of, mixed, print_end, print_part};
+use testing::{check_of, mixed, print, print_end, print_part};
 use wire::size;
 
 const ROOM: usize = 262144;
@@ -45,10 +46,8 @@ struct Kept {
 
 fn with_loops(mut h: u32, m: Machine) -> u32 {
     let open = m.open as usize;
-    let mut i: usize = 0;
-    while i < 8 && i < open {
+    for i in 0..open.min(8) {
         h = mixed(mixed(mixed(h, m.loop_rows[i]), m.starts[i]), m.ends[i]);
-        i += 1;
     }
     h
 }
@@ -70,14 +69,12 @@ fn with_variable(h: u32, kind: u32, number: u32, base: u32) -> u32 {
 }
 
 fn with_variables(mut h: u32, m: Machine, t: &[u32]) -> u32 {
-    let mut i: usize = 0;
-    while i < 32 {
+    for i in 0..32 {
         let kind = kind_of(t, i);
         if kind < 1 || 3 < kind {
             return h;
         }
         h = with_variable(h, kind, m.numbers[i], m.bases[i]);
-        i += 1;
     }
     h
 }
@@ -91,13 +88,11 @@ fn shape_word(shape: u8) -> u32 {
 
 fn with_arrays(mut h: u32, m: Machine) -> u32 {
     let count = m.count as usize;
-    let mut i: usize = 0;
-    while i < 16 && i < count {
+    for i in 0..count.min(16) {
         h = mixed(
             mixed(mixed(h, m.firsts[i]), m.lengths[i]),
             shape_word(m.shapes[i]),
         );
-        i += 1;
     }
     h
 }
@@ -127,10 +122,8 @@ fn with_kept_locals(mut h: u32, stack: &[u32; STACK], at: usize, count: u32) -> 
     requires { at ≤ 210 }
 {
     let locals = count as usize;
-    let mut i: usize = 0;
-    while i < 4 && i < locals {
+    for i in 0..locals.min(4) {
         h = mixed(h, stack[at + 2 + i]);
-        i += 1;
     }
     h
 }
@@ -140,13 +133,11 @@ fn with_kept_loops(mut h: u32, stack: &[u32; STACK], at: usize) -> u32
     requires { at ≤ 210 }
 {
     let open = size(stack[at + 1]);
-    let mut i: usize = 0;
-    while i < 8 && i < open {
+    for i in 0..open.min(8) {
         h = mixed(
             mixed(mixed(h, stack[at + 6 + i]), stack[at + 14 + i]),
             stack[at + 22 + i],
         );
-        i += 1;
     }
     h
 }
@@ -163,10 +154,8 @@ fn with_caller(h: u32, stack: &[u32; STACK], at: usize, t: &[u32]) -> u32
 // The callers, the one in main first.
 fn with_callers(mut h: u32, stack: &[u32; STACK], t: &[u32]) -> u32 {
     let callers = size(stack[DEPTH]);
-    let mut d: usize = 0;
-    while d < 8 && d < callers {
+    for d in 0..callers.min(8) {
         h = with_caller(h, stack, CALLER * d, t);
-        d += 1;
     }
     h
 }
@@ -183,27 +172,27 @@ fn record_check(r: Record, t: &[u32]) -> u32 {
 
 // Output
 
-fn print_ran(r: Ran, t: &[u32]) {
+fn print_ran<W: Write>(to: &mut W, r: Ran, t: &[u32]) {
     let e = r.end;
     let record = r.record;
     let m = record.machine;
-    print_end(e);
-    print_part(b" row ", m.row as u64);
-    print_part(b" steps ", r.steps as u64);
-    print_part(b" choices ", r.used);
-    print_part(b" record ", record_check(record, t) as u64);
+    print_end(to, e);
+    print_part(to, b" row ", m.row as u64);
+    print_part(to, b" steps ", r.steps as u64);
+    print_part(to, b" choices ", r.used);
+    print_part(to, b" record ", record_check(record, t) as u64);
 }
 
-fn print_answer(a: Answered, t: &[u32], cells: &[u32]) {
+fn print_answer<W: Write>(to: &mut W, a: Answered, t: &[u32], cells: &[u32]) {
     let v = a.verdict;
     match v {
-        Verdict::Refused(number, place) => testing::print_refusal(number, place as u64),
+        Verdict::Refused(number, place) => testing::print_refusal(to, number, place as u64),
         Verdict::Passes => {
             let r = a.ran;
-            print_ran(r, t);
+            print_ran(to, r, t);
         }
     }
-    print_part(b" cells ", check_of(cells) as u64);
+    print_part(to, b" cells ", check_of(cells) as u64);
 }
 
 // Edits of a record and of the cells
@@ -340,10 +329,8 @@ fn continued_run(
 // The first run, as often as asked; the last of them is the one that counts.
 fn first_run(q: Asked, t: &[u32], cells: &mut [u32], list: &[u32], limit: u32) -> Answered {
     let times = q.times;
-    let mut k: u32 = 1;
-    while k < times {
+    for _ in 1..times {
         fresh_run(q, t, cells, list, limit);
-        k += 1;
     }
     fresh_run(q, t, cells, list, limit)
 }
@@ -391,7 +378,15 @@ fn kept_of(a: Answered, before: Record) -> Kept {
 }
 
 // Prints how many cuts leave a run what it is, where that is asked and it was not refused.
-fn print_cuts(w: Whole, t: &[u32], list: &[u32], before: &[u32], after: &[u32], spare: &mut [u32]) {
+fn print_cuts<W: Write>(
+    to: &mut W,
+    w: Whole,
+    t: &[u32],
+    list: &[u32],
+    before: &[u32],
+    after: &[u32],
+    spare: &mut [u32],
+) {
     let q = w.asked;
     if !q.cut {
         return;
@@ -399,15 +394,23 @@ fn print_cuts(w: Whole, t: &[u32], list: &[u32], before: &[u32], after: &[u32], 
     let a = w.answered;
     let v = a.verdict;
     if let Verdict::Passes = v {
-        print_part(b" cuts ", cuts::cuts(w, t, list, before, after, spare));
+        print_part(to, b" cuts ", cuts::cuts(w, t, list, before, after, spare));
     }
 }
 
 // The line of a run.
-fn print_line(w: Whole, t: &[u32], list: &[u32], before: &[u32], after: &[u32], spare: &mut [u32]) {
-    print_answer(w.answered, t, after);
-    print_cuts(w, t, list, before, after, spare);
-    io::write_all(1, b"\n");
+fn print_line<W: Write>(
+    to: &mut W,
+    w: Whole,
+    t: &[u32],
+    list: &[u32],
+    before: &[u32],
+    after: &[u32],
+    spare: &mut [u32],
+) {
+    print_answer(to, w.answered, t, after);
+    print_cuts(to, w, t, list, before, after, spare);
+    print(to, b"\n");
 }
 
 // A run of a case; the cells with which it starts are kept.
@@ -435,7 +438,8 @@ fn whole_run(
 }
 
 // A run of a case and its line. Two more buffers are lent, as long as the cells.
-fn printed_run(
+fn printed_run<W: Write>(
+    to: &mut W,
     q: Asked,
     first: bool,
     r: Record,
@@ -448,12 +452,13 @@ fn printed_run(
     spare: &mut [u32],
 ) -> Kept {
     let w = whole_run(q, first, r, t, cells, list, limit, edits, before);
-    print_line(w, t, list, before, cells, spare);
+    print_line(to, w, t, list, before, cells, spare);
     kept_of(w.answered, r)
 }
 
 // The runs of a case, until its words end; none uses more choices than are left.
-fn all_runs(
+fn all_runs<W: Write>(
+    to: &mut W,
     q: Asked,
     t: &[u32],
     cells: &mut [u32],
@@ -472,6 +477,7 @@ fn all_runs(
             return;
         }
         let k = printed_run(
+            to,
             q,
             first,
             r,
@@ -497,7 +503,7 @@ fn all_runs(
 // Cases
 
 // The parts of a case: the head, the table, the list and the runs. Whether they fit.
-fn run_case(w: &[u32]) -> bool {
+fn run_case<W: Write>(to: &mut W, w: &[u32]) -> bool {
     if w.len() < HEAD {
         return false;
     }
@@ -521,6 +527,7 @@ fn run_case(w: &[u32]) -> bool {
     let mut before = [0u32; CELLS];
     let mut spare = [0u32; CELLS];
     all_runs(
+        to,
         q,
         &w[HEAD..list],
         &mut lent[..cells],
@@ -533,34 +540,37 @@ fn run_case(w: &[u32]) -> bool {
 }
 
 // Puts the words of a case into a lent buffer, and runs it.
-fn filled_case(words: &mut [u32], s: &[u8]) -> bool {
+fn filled_case<W: Write>(to: &mut W, words: &mut [u32], s: &[u8]) -> bool {
     wire::put_words(words, s);
-    run_case(words)
+    run_case(to, words)
 }
 
 // Runs a case: whether it fits.
-fn report(s: &[u8]) -> bool {
+fn report<W: Write>(to: &mut W, s: &[u8]) -> bool {
     let n = s.len() / 4;
     if WORDS < n {
         return false;
     }
     let mut words = [0u32; WORDS];
-    filled_case(&mut words[..n], s)
+    filled_case(to, &mut words[..n], s)
 }
 
 // One case: whether there was one that fits.
-fn run(room: &mut [u8]) -> bool {
-    let c = wire::next_message(room);
+fn run<R: Read, W: Write>(from: &mut R, to: &mut W, room: &mut [u8]) -> bool {
+    let c = wire::next_message(from, room);
     if !c.there {
         return false;
     }
-    report(&room[..c.bytes])
+    report(to, &room[..c.bytes])
 }
 
-fn main() {
+fn main(rt: HostRuntime) {
     let mut room = [0u8; ROOM];
-    let mut k: u32 = 0;
-    while k < 100000 && run(&mut room) {
-        k += 1;
+    let mut from = rt.stdin();
+    let mut to = rt.stdout();
+    for _ in 0..100000u32 {
+        if !run(&mut from, &mut to, &mut room) {
+            return;
+        }
     }
 }

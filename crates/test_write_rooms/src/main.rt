@@ -7,8 +7,9 @@ ghost use Rattle.std.specs.Prelude.{◌≤◌};
 
 use calls::DEPTH;
 use runs::Answered;
+use std::io::Write;
 use table::Verdict;
-use testing::{check_of, print_part};
+use testing::{check_of, print, print_part};
 
 const MOST: usize = 31;
 
@@ -29,72 +30,69 @@ const CALLS: [u32; 88] = [
     43, 2, 1, 0, 38, 0, 0, 0, 44, 4, 0, 0, 39, 0, 0, 0, 43, 3, 1, 0, 45, 1, 2, 3, 43, 4, 1, 0,
 ];
 
-fn print_word(word: u32) {
-    print_part(b" ", word as u64);
+fn print_word<W: Write>(to: &mut W, word: u32) {
+    print_part(to, b" ", word as u64);
 }
 
-fn print_list(list: &[u32]) {
-    let mut i: usize = 0;
-    while i < list.len() {
-        print_word(list[i]);
-        i += 1;
+fn print_list<W: Write>(to: &mut W, list: &[u32]) {
+    for i in 0..list.len() {
+        print_word(to, list[i]);
     }
-    io::write_all(1, b"\n");
+    print(to, b"\n");
 }
 
-fn print_answer(a: Answered, cells: &[u32]) {
+fn print_answer<W: Write>(to: &mut W, a: Answered, cells: &[u32]) {
     let v = a.verdict;
-    io::write_all(1, b" ");
+    print(to, b" ");
     let Verdict::Passes = v else {
-        testing::print_verdict(v);
+        testing::print_verdict(to, v);
         return;
     };
     let w = a.ran;
     let end = w.end;
-    testing::print_end(end);
+    testing::print_end(to, end);
     let r = w.record;
     let m = r.machine;
-    print_part(b" row ", m.row as u64);
-    print_part(b" steps ", w.steps as u64);
-    print_part(b" count ", w.used);
-    print_part(b" open ", m.open as u64);
-    print_part(b" arrays ", m.count as u64);
-    io::write_all(1, b" callers");
-    print_word(r.stack[DEPTH]);
-    io::write_all(1, b" iterator");
-    print_word(m.numbers[0]);
-    print_part(b" cells ", check_of(cells) as u64);
-    io::write_all(1, b":");
+    print_part(to, b" row ", m.row as u64);
+    print_part(to, b" steps ", w.steps as u64);
+    print_part(to, b" count ", w.used);
+    print_part(to, b" open ", m.open as u64);
+    print_part(to, b" arrays ", m.count as u64);
+    print(to, b" callers");
+    print_word(to, r.stack[DEPTH]);
+    print(to, b" iterator");
+    print_word(to, m.numbers[0]);
+    print_part(to, b" cells ", check_of(cells) as u64);
+    print(to, b":");
 }
 
-fn write_in(t: &[u32], list: &mut [u32]) {
+fn write_in<W: Write>(to: &mut W, t: &[u32], list: &mut [u32]) {
     let mut cells = [7u32; CELLS];
     let a = choices::write_choices(t, 1, 3, &mut cells, list, 100);
-    print_answer(a, &cells);
-    print_list(list);
+    print_answer(to, a, &cells);
+    print_list(to, list);
 }
 
-fn write_room(t: &[u32], room: usize)
+fn write_room<W: Write>(to: &mut W, t: &[u32], room: usize)
     requires { room ≤ 31 }
 {
     let mut list = [7u32; MOST];
-    print_part(b"room ", room as u64);
-    write_in(t, &mut list[..room]);
+    print_part(to, b"room ", room as u64);
+    write_in(to, t, &mut list[..room]);
 }
 
-fn write_rooms(t: &[u32]) {
-    let mut room: usize = 0;
-    while room <= MOST {
-        write_room(t, room);
-        room += 1;
+fn write_rooms<W: Write>(to: &mut W, t: &[u32]) {
+    for room in 0..MOST + 1 {
+        write_room(to, t, room);
     }
 }
 
 // The last table is T with 5 for the end of its walk, one circuit too far: the write there fails.
-fn main() {
-    write_rooms(&T);
-    write_rooms(&CALLS);
+fn main(rt: HostRuntime) {
+    let mut to = rt.stdout();
+    write_rooms(&mut to, &T);
+    write_rooms(&mut to, &CALLS);
     let mut far = T;
     far[17] = 5;
-    write_rooms(&far);
+    write_rooms(&mut to, &far);
 }

@@ -6,62 +6,68 @@ ghost use Rattle.testing.specs.Checks.{mixed_with, check_number};
 
 use evaluators::answers::reason_number;
 use machine::End;
+use std::io::Write;
 use table::Verdict;
 
 // Output
 
+// Prints bytes. What is not written is missed in the output, so a test program goes on.
+pub fn print<W: Write>(to: &mut W, bytes: &[u8]) {
+    let _ = to.write_all(bytes);
+}
+
 // Prints a name and a number.
-pub fn print_part(name: &[u8], n: u64) {
-    io::write_all(1, name);
-    io::print_decimal(1, n);
+pub fn print_part<W: Write>(to: &mut W, name: &[u8], n: u64) {
+    print(to, name);
+    let _ = write!(to, "{n}");
 }
 
 // Prints a refusal (rule 8.2), but not the end of its line.
-pub fn print_refusal(number: u32, place: u64) {
-    print_part(b"refused ", number as u64);
-    print_part(b" line ", place);
+pub fn print_refusal<W: Write>(to: &mut W, number: u32, place: u64) {
+    print_part(to, b"refused ", number as u64);
+    print_part(to, b" line ", place);
 }
 
 // Prints a refusal, or that there is none.
-pub fn print_verdict(v: Verdict) {
+pub fn print_verdict<W: Write>(to: &mut W, v: Verdict) {
     match v {
-        Verdict::Refused(number, place) => print_refusal(number, place as u64),
+        Verdict::Refused(number, place) => print_refusal(to, number, place as u64),
         Verdict::Passes => {
-            io::write_all(1, b"passes");
+            print(to, b"passes");
         }
     }
 }
 
 // Prints the name of an end (rule 8.4), a failure with its reason (rule 8.17); the choice writer has one more, `full`.
-pub fn print_end(e: End) {
+pub fn print_end<W: Write>(to: &mut W, e: End) {
     match e {
         End::Done => {
-            io::write_all(1, b"done");
+            print(to, b"done");
         }
         End::AssertFalse => {
-            io::write_all(1, b"assert");
+            print(to, b"assert");
         }
         End::AssumeFalse => {
-            io::write_all(1, b"assume");
+            print(to, b"assume");
         }
-        End::Fail(reason) => print_part(b"fail reason ", reason_number(reason) as u64),
+        End::Fail(reason) => print_part(to, b"fail reason ", reason_number(reason) as u64),
         End::WantOfCells => {
-            io::write_all(1, b"room");
+            print(to, b"room");
         }
         End::OutOfSteps => {
-            io::write_all(1, b"steps");
+            print(to, b"steps");
         }
         End::ChoiceNotAllowed => {
-            io::write_all(1, b"badchoice");
+            print(to, b"badchoice");
         }
         End::NoChoiceLeft => {
-            io::write_all(1, b"nochoice");
+            print(to, b"nochoice");
         }
         End::ListFull => {
-            io::write_all(1, b"full");
+            print(to, b"full");
         }
         End::TooDeep => {
-            io::write_all(1, b"deep");
+            print(to, b"deep");
         }
     }
 }

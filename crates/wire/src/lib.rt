@@ -12,6 +12,7 @@ use file::word::word_at;
 use lists::word_or_zero;
 use machine::End;
 use runs::{Answered, Ran};
+use std::io::{Read, Write};
 use table::Verdict;
 
 // The words that are sent at once.
@@ -58,7 +59,7 @@ pub fn put_words(words: &mut [u32], s: &[u8])
 }
 
 // Reads the length of the next message and then the message, into the front of a lent buffer.
-pub fn next_message(room: &mut [u8]) -> Message
+pub fn next_message<R: Read>(from: &mut R, room: &mut [u8]) -> Message
     ensures { result.bytes ≤ length room.new }
 {
     let none = Message {
@@ -66,16 +67,14 @@ pub fn next_message(room: &mut [u8]) -> Message
         bytes: 0,
     };
     let mut length = [0u8; 4];
-    let got = io::read_full(0, &mut length);
-    if got < 4 {
+    if from.read_exact(&mut length).is_err() {
         return none;
     }
     let n = size(word(&length, 0));
     if room.len() < n {
         return none;
     }
-    let read = io::read_full(0, &mut room[..n]);
-    if read < n {
+    if from.read_exact(&mut room[..n]).is_err() {
         return none;
     }
     Message {
@@ -118,13 +117,13 @@ pub fn put_bytes(out: &mut [u8], words: &[u32])
 }
 
 // Sends words by way of a lent buffer of as many bytes: whether all were written.
-fn send_through(space: &mut [u8], words: &[u32]) -> bool {
+fn send_through<W: Write>(to: &mut W, space: &mut [u8], words: &[u32]) -> bool {
     put_bytes(space, words);
-    io::write_all(1, space)
+    to.write_all(space).is_ok()
 }
 
 // The same of at most 1,024 words, and a buffer of 4,096 bytes.
-fn send_chunk(space: &mut [u8], words: &[u32]) -> bool {
+fn send_chunk<W: Write>(to: &mut W, space: &mut [u8], words: &[u32]) -> bool {
     if CHUNK < words.len() {
         return false;
     }
@@ -132,20 +131,18 @@ fn send_chunk(space: &mut [u8], words: &[u32]) -> bool {
     if space.len() < n {
         return false;
     }
-    send_through(&mut space[..n], words)
+    send_through(to, &mut space[..n], words)
 }
 
-// Writes words to standard output as bytes: whether all were written.
-pub fn send_words(words: &[u32]) -> bool {
+// Writes words as bytes: whether all were written.
+pub fn send_words<W: Write>(to: &mut W, words: &[u32]) -> bool {
     let mut space = [0u8; 4096];
-    let mut rest = &words[..];
-    while CHUNK < rest.len() {
-        if !send_chunk(&mut space, &rest[..CHUNK]) {
+    for part in words.chunks(CHUNK) {
+        if !send_chunk(to, &mut space, part) {
             return false;
         }
-        rest = &rest[CHUNK..];
     }
-    send_chunk(&mut space, rest)
+    true
 }
 
 // Heads

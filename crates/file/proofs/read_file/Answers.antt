@@ -1,5 +1,5 @@
 -- A refusal is handed on with the words untouched; an accepted file has lines that fit the words, and fills them.
-use Rattle.std.proofs.Common.{sym, ◌∙◌, rules}
+use Rattle.std.proofs.Common.{sym, ◌∙◌}
 use Rattle.file.specs.Reading.{read_buffer}
 use Rattle.file.proofs.ReadingLaws.{accepted, lines-in-blocks, lines-most}
 use Rattle.file.proofs.read_file.Goals as goal

@@ -1,9 +1,7 @@
 -- The loop has written k blocks.
-use Rattle.std.proofs.Common.{◌≡◌, ◌+◌, ◌-◌, ◌*◌, ◌≤◌, length, take, sym, arith, rules}
+use Rattle.std.proofs.Common.{◌≡◌, ◌-◌, ◌*◌, ◌≤◌, length, take}
 use Rattle.lists.specs.Tab.{tab}
-use Rattle.lists.proofs.TabLaws.{length-tab, tab-none}
-use Rattle.file.specs.Layout.{blocks_for, lines_in, file_byte, file_bytes}
-use Rattle.file.proofs.LayoutLaws.{length-file}
+use Rattle.file.specs.Layout.{file_byte}
 use Rattle.file.proofs.write_blocks.Given as goal
 
 abbrev pub invariant-loop-k : goal.invariant-loop-k

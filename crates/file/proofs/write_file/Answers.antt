@@ -1,6 +1,5 @@
 -- A table that is refused is not written.
 -- Assumes nothing.
-use Rattle.std.proofs.Common.{sym, ◌∙◌, rules}
 use Rattle.file.proofs.WritingLaws.{by-table}
 use Rattle.file.proofs.write_file.Goals as goal
 

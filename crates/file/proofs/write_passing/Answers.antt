@@ -1,6 +1,5 @@
 -- A buffer of another size is refused; else the blocks are written.
 -- Assumes nothing.
-use Rattle.std.proofs.Common.{rules}
 use Rattle.file.proofs.RoundTrips.{passing-short}
 use Rattle.file.proofs.WritingLaws.{by_size, done}
 use Rattle.file.proofs.write_passing.Goals as goal

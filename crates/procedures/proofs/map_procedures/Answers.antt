@@ -1,15 +1,11 @@
 -- `map_procedures` meets its contract: before each row the map is right of the procedures opened before it and of the rows above it.
 -- Assumes nothing.
 use borrow.Author.Rules.{rules}
-use Prim.Native.Nat.{◌≤◌, ◌-◌}
 use native.Mathlib.Omega.{arith}
-use mathlib.Core.Path.{◌≡◌, sym, ◌∙◌}
-use lib.ListN.{length-set}
-use Rattle.model.specs.Table.{home}
-use Rattle.model.specs.Procedures.{opened_before}
+use mathlib.Core.Path.{sym}
 use Rattle.kinds.specs.Code.{table_by}
 use Rattle.kinds.proofs.LineLaws.{home-more, home-none}
-use Rattle.procedures.proofs.MapLaws.{MappedBefore, before_more, before-none, mapped-all, opened-more, opened-none}
+use Rattle.procedures.proofs.MapLaws.{before_more, before-none, mapped-all, opened-more, opened-none}
 use Rattle.procedures.proofs.map_procedures.Goals as goal
 
 pub loop-row-init : goal.loop-row-init

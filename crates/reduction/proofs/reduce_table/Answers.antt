@@ -1,6 +1,5 @@
 -- The checks are made in the definition's order, and the lent table is written only after all of them.
 -- Assumes nothing.
-use borrow.Author.Rules.{rules}
 use Rattle.reduction.proofs.ReductionLaws.{by-table, by-pair, by_size, reduced}
 use Rattle.reduction.proofs.reduce_table.Goals as goal
 

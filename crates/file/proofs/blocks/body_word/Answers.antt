@@ -1,7 +1,6 @@
 -- Each answer is the branch of the definition that its tests choose.
 use Rattle.file.specs.Layout.{body_word}
 use Rattle.lists.proofs.Flags.{flags}
-use Rattle.std.proofs.Common.{rules}
 use Rattle.file.proofs.blocks.body_word.Goals as goal
 
 pub returns-then-r-lt-LINE_WORDS : goal.returns-then-r-lt-LINE_WORDS

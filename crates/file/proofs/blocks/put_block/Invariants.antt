@@ -1,9 +1,7 @@
 -- The loop has written r words of the block and folded them.
-use Rattle.std.proofs.Common.{◌≡◌, ◌+◌, ◌-◌, ◌*◌, ◌%◌, ◌^◌, ◌≤◌, length, take, sym, refl, ◌∙◌, arith, length-set, rules}
+use Rattle.std.proofs.Common.{◌≡◌, ◌+◌, ◌-◌, ◌*◌, ◌%◌, ◌^◌, ◌≤◌, length, take}
 use Rattle.lists.specs.Tab as tab
-use Rattle.lists.proofs.TabLaws.{sum_more}
 use Rattle.file.specs.Layout.{body_word, file_byte}
-use Rattle.file.proofs.LayoutLaws.{word-plain, word-check, put-file}
 use Rattle.file.proofs.blocks.put_block.Given as goal
 
 abbrev pub invariant-loop-r : goal.invariant-loop-r

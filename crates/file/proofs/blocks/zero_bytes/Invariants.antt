@@ -1,7 +1,6 @@
 -- The loop has put i places right: those below `from` as they were, then zeros.
-use Rattle.std.proofs.Common.{◌≡◌, ◌-◌, ◌≤◌, length, get_or, take, arith, length-set, rules}
+use Rattle.std.proofs.Common.{◌≡◌, ◌-◌, ◌≤◌, length, get_or, take}
 use Rattle.lists.specs.Tab.{tab}
-use Rattle.lists.proofs.TabLaws.{tab-all, zero-none, zero_more}
 use Rattle.file.proofs.blocks.zero_bytes.Given as goal
 
 abbrev pub invariant-loop-i : goal.invariant-loop-i

@@ -1,5 +1,5 @@
 -- Each answer is the branch of the definition that its tests choose.
-use Rattle.std.proofs.Common.{length, sym, ◌∙◌, arith, rules, eq-eqb, ne_eqb}
+use Rattle.std.proofs.Common.{length, sym, ◌∙◌, arith, eq-eqb, ne_eqb}
 use Rattle.lists.proofs.FirstLaws.{first_below}
 use Rattle.file.specs.Reading.{blocks, wrong_check, wrong_block, read_answer}
 use Rattle.file.proofs.ReadingLaws.{length-fits, lines_fit}

@@ -1,5 +1,5 @@
 -- The loop has folded r words: their sum, modulo two to the thirty-second.
-use Rattle.std.proofs.Common.{◌≡◌, ◌-◌, ◌%◌, ◌^◌, ◌≤◌, refl, arith, rules}
+use Rattle.std.proofs.Common.{refl, arith, rules}
 use Rattle.lists.specs.Tab as tab
 use Rattle.lists.proofs.TabLaws.{sum_more}
 use Rattle.file.specs.Reading.{word}

@@ -1,7 +1,6 @@
 -- The loop has folded r words: their sum, modulo two to the thirty-second.
-use Rattle.std.proofs.Common.{◌≡◌, ◌-◌, ◌%◌, ◌^◌, ◌≤◌, refl, arith, rules}
+use Rattle.std.proofs.Common.{◌≡◌, ◌-◌, ◌%◌, ◌^◌, ◌≤◌}
 use Rattle.lists.specs.Tab as tab
-use Rattle.lists.proofs.TabLaws.{sum_more}
 use Rattle.file.specs.Reading.{word}
 use Rattle.file.proofs.checks.block_check.Given as goal
 

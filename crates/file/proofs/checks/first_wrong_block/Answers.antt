@@ -1,9 +1,6 @@
 -- The first in all is the first of what is left: no block below k is wrong.
-use Rattle.std.proofs.Common.{◌≡◌, ◌-◌, ◌≤◌, sym, ◌∙◌, rules}
-use native.Mathlib.Nat.{sub-zero}
-use Rattle.lists.specs.First.{first}
+use Rattle.std.proofs.Common.{sym, ◌∙◌, rules}
 use Rattle.lists.proofs.FirstLaws.{first-hit, first-miss, first-none}
-use Rattle.file.specs.Reading.{blocks, wrong_block}
 use Rattle.file.proofs.checks.first_wrong_block.Goals as goal
 
 pub returns-then-wrong_block : goal.returns-then-wrong_block

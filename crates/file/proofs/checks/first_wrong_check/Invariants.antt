@@ -1,8 +1,6 @@
 -- The first in all is the first of what is left: no block below k is wrong.
-use Rattle.std.proofs.Common.{◌≡◌, ◌-◌, ◌≤◌, sym, ◌∙◌, rules}
-use native.Mathlib.Nat.{sub-zero}
+use Rattle.std.proofs.Common.{◌≡◌, ◌-◌, ◌≤◌}
 use Rattle.lists.specs.First.{first}
-use Rattle.lists.proofs.FirstLaws.{first-hit, first-miss, first-none}
 use Rattle.file.specs.Reading.{blocks, wrong_check}
 use Rattle.file.proofs.checks.first_wrong_check.Given as goal
 

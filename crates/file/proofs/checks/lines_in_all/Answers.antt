@@ -1,8 +1,8 @@
 -- The loop has added the counts of k blocks, each below two to the thirty-second.
-use Rattle.std.proofs.Common.{◌≡◌, ◌-◌, ◌*◌, ◌^◌, ◌≤◌, refl, arith, rules}
+use Rattle.std.proofs.Common.{refl, arith, rules}
 use Rattle.lists.specs.Tab.{sum}
 use Rattle.lists.proofs.TabLaws.{sum_more}
-use Rattle.file.specs.Reading.{word, blocks}
+use Rattle.file.specs.Reading.{word}
 use Rattle.file.proofs.checks.lines_in_all.Goals as goal
 
 pub loop-k-init : goal.loop-k-init

@@ -1,8 +1,7 @@
 -- The loop has passed r unused words, all zero.
-use Rattle.std.proofs.Common.{◌≡◌, ℕ, ◌+◌, ◌-◌, ◌*◌, ◌≤◌, Bool, true, eqb, List, sym, refl, ◌∙◌, arith, rules, eq-eqb, ne_eqb}
+use Rattle.std.proofs.Common.{◌-◌, ◌*◌, sym, refl, ◌∙◌, arith, rules, eq-eqb, ne_eqb}
 use Rattle.lists.specs.Tab.{all}
 use Rattle.lists.proofs.TabLaws.{all_more, all-stop}
-use Rattle.file.specs.Reading.{word}
 use Rattle.file.proofs.checks.unused_zero.Invariants.{zero-at}
 use Rattle.file.proofs.checks.unused_zero.Goals as goal
 

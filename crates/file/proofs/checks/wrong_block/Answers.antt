@@ -1,5 +1,4 @@
 -- The block's numbers are read, and each test is the definition's.
-use Rattle.std.proofs.Common.{rules}
 use Rattle.file.specs.Reading.{wrong_block}
 use Rattle.file.proofs.checks.wrong_block.Goals as goal
 

@@ -1,6 +1,5 @@
 -- The loop has filled the words below i, and stands at the byte where word i is.
-use Rattle.std.proofs.Common.{◌≡◌, ◌+◌, ◌-◌, ◌*◌, ◌/◌, ◌%◌, ◌≤◌, length, take, ap, ◌∙◌, arith, length-set, rules}
-use Rattle.lists.specs.Tab.{tab}
+use Rattle.std.proofs.Common.{◌≡◌, ◌+◌, ◌*◌, ◌/◌, ◌%◌, ap, ◌∙◌, arith, length-set, rules}
 use Rattle.lists.proofs.TabLaws.{tab-more}
 use Rattle.file.specs.Word.{word_at}
 use Rattle.file.specs.Reading.{table_word}

@@ -1,8 +1,6 @@
 -- The loop has filled the words below i, and stands at the byte where word i is.
-use Rattle.std.proofs.Common.{◌≡◌, ◌+◌, ◌-◌, ◌*◌, ◌/◌, ◌%◌, ◌≤◌, length, take, ap, ◌∙◌, arith, length-set, rules}
+use Rattle.std.proofs.Common.{◌≡◌, ◌+◌, ◌-◌, ◌*◌, ◌≤◌, length, take}
 use Rattle.lists.specs.Tab.{tab}
-use Rattle.lists.proofs.TabLaws.{tab-more}
-use Rattle.file.specs.Word.{word_at}
 use Rattle.file.specs.Reading.{table_word}
 use Rattle.file.proofs.fill.fill_block.Given as goal
 

@@ -1,8 +1,6 @@
 -- The loop has filled k blocks, or all n words.
-use Rattle.std.proofs.Common.{◌≡◌, ◌+◌, ◌-◌, ◌*◌, ◌≤◌, min, length, take, ◌∙◌, arith, rules}
-use Rattle.lists.specs.Tab.{tab}
+use Rattle.std.proofs.Common.{◌≡◌, min, arith, rules}
 use Rattle.lists.proofs.TabLaws.{tab-none}
-use Rattle.file.specs.Reading.{table_word}
 use Rattle.file.proofs.fill.fill_words.Goals as goal
 
 pub loop-k-init : goal.loop-k-init

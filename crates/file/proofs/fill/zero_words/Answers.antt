@@ -1,7 +1,6 @@
 -- The loop has put i places right: those below `from` as they were, then zeros.
-use Rattle.std.proofs.Common.{◌≡◌, ◌-◌, ◌≤◌, length, get_or, take, arith, length-set, rules}
-use Rattle.lists.specs.Tab.{tab}
-use Rattle.lists.proofs.TabLaws.{tab-all, zero-none, zero_more}
+use Rattle.std.proofs.Common.{arith, length-set, rules}
+use Rattle.lists.proofs.TabLaws.{zero-none, zero_more}
 use Rattle.file.proofs.fill.zero_words.Goals as goal
 
 pub loop-i-init : goal.loop-i-init

@@ -1,13 +1,9 @@
 -- The depth of a node and those of its operands: the node number falls, and each depth is kept once it is worked out.
 -- Assumes nothing.
-use borrow.Author.Rules.{rules}
-use borrow.Author.Tests.{eq-eqb, ne_eqb, lt-ltb, le-ltb}
 use native.Mathlib.Omega.{arith}
 use mathlib.Core.Path.{refl}
-use lib.ListN.{length, length-set}
 use Rattle.kinds.specs.Code.{table_by}
-use Rattle.line_checks.proofs.DepthLaws.{depth_is, depth-most, kept_set}
-use Prim.Native.Nat.{ℕ, ◌<◌, ◌+◌, ◌*◌}
+use Rattle.line_checks.proofs.DepthLaws.{depth_is, depth-most}
 use Rattle.line_checks.proofs.depths.+depth_of_line_depth_operand_depth.Goals as goal
 
 pub depth_of-returns-then-kept-ne0-clause-value : goal.depth_of-returns-then-kept-ne0-clause-value
@@ -19,22 +15,22 @@ depth_of-returns-then-kept-ne0-clause-value t c =
 pub line_depth-returns-clause-value : goal.line_depth-returns-clause-value
 line_depth-returns-clause-value t c =
     let table = table_by c.args.words.now c.args.counts in (
-        rw (
-          c.larger-2.ensures,
-          c.larger.ensures,
-          c.operand_depth-c.ensures.value.0,
-          c.operand_depth-b.ensures.value.0,
-          c.operand_depth-a.ensures.value.0,
-          c.role_c.ensures,
-          c.role_b.ensures,
-          c.role_a.ensures,
-        ) (depth_is table c.requires.in_sorts c.args.node c.requires.depths_len.1 _ refl),
-        omega (
-          arith,
-          c.larger-2.ensures,
-          c.larger.ensures,
-          c.operand_depth-c.ensures.value.1,
-          c.operand_depth-b.ensures.value.1,
-          c.operand_depth-a.ensures.value.1,
-        ),
-      )
+      rw (
+        c.larger-2.ensures,
+        c.larger.ensures,
+        c.operand_depth-c.ensures.value.0,
+        c.operand_depth-b.ensures.value.0,
+        c.operand_depth-a.ensures.value.0,
+        c.role_c.ensures,
+        c.role_b.ensures,
+        c.role_a.ensures,
+      ) (depth_is table c.requires.in_sorts c.args.node c.requires.depths_len.1 _ refl),
+      omega (
+        arith,
+        c.larger-2.ensures,
+        c.larger.ensures,
+        c.operand_depth-c.ensures.value.1,
+        c.operand_depth-b.ensures.value.1,
+        c.operand_depth-a.ensures.value.1,
+      ),
+    )

@@ -1,6 +1,5 @@
 -- `depths::breaks_10` meets its contract: a node has a depth, and no other line has.
 -- Assumes nothing.
-use borrow.Author.Rules.{rules}
 use native.Mathlib.Omega.{arith}
 use Prim.Native.Nat.{◌+◌, ◌<◌, ◌≤◌}
 use mathlib.Core.Path.{sym, ap, ◌∙◌}
@@ -23,7 +22,7 @@ returns-then-n-counts-clause-value c =
     let i = c.args.line in
     let low : i < t.decls + t.nodes = omega arith in
     let call = c.depth_of in ap (ltb most_depth) call.ensures.value.0
-          ∙ sym (at-node t c.requires.in_sorts i (λ n. ltb most_depth (depth t n)) (λ r. false) c.if-line-decls.false low)
+    ∙ sym (at-node t c.requires.in_sorts i (λ n. ltb most_depth (depth t n)) (λ r. false) c.if-line-decls.false low)
 
 pub returns-clause-value : goal.returns-clause-value
 unfolding breaks10

@@ -1,16 +1,11 @@
 -- `depths::first_deep` meets its contract: what is sought from 0 on is what is sought from `i` on, and what is kept stays right.
 -- Assumes nothing.
 use borrow.Author.Rules.{rules}
-use Prim.Native.Nat.{◌≤◌, ◌-◌, ◌/◌}
-use native.Mathlib.Omega.{arith}
 use native.Mathlib.Nat.{sub-zero}
-use mathlib.Core.Path.{◌≡◌, refl, sym, ◌∙◌}
-use lib.ListN.{length}
-use Rattle.lists.specs.First.{first}
+use mathlib.Core.Path.{refl, sym, ◌∙◌}
 use Rattle.lists.proofs.FirstLaws.{first-hit, first-miss, first-none}
 use Rattle.kinds.specs.Code.{table_by}
 use Rattle.line_checks.specs.Rules.{breaks10}
-use Rattle.line_checks.specs.Code.{Kept}
 use Rattle.line_checks.proofs.DepthLaws.{kept-none}
 use Rattle.line_checks.proofs.depths.first_deep.Goals as goal
 

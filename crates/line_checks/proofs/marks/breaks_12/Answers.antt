@@ -1,6 +1,5 @@
 -- `marks::breaks_12` meets its contract: the line is a declaration or not by its place.
 -- Assumes nothing.
-use borrow.Author.Rules.{rules}
 use Prim.Native.Nat.{◌+◌, ◌<◌}
 use native.Mathlib.Omega.{arith}
 use mathlib.Core.Path.{sym, ap, ◌∙◌}

@@ -1,6 +1,5 @@
 -- `lines::breaks_5` meets its contract: the calls give what the definition names.
 -- Assumes nothing.
-use borrow.Author.Rules.{rules}
 use Rattle.line_checks.specs.Rules.{breaks5}
 use Rattle.line_checks.proofs.operands.breaks_5.Goals as goal
 

@@ -1,6 +1,5 @@
 -- `lines::breaks_6` meets its contract: the definition's own tests.
 -- Assumes nothing.
-use borrow.Author.Rules.{rules}
 use Rattle.line_checks.specs.Rules.{breaks6}
 use mathlib.Core.Path.{refl}
 use Rattle.line_checks.proofs.operands.breaks_6.Goals as goal

@@ -1,6 +1,5 @@
 -- `lines::breaks_7` meets its contract: each operand by the number of its role.
 -- Assumes nothing.
-use borrow.Author.Rules.{rules}
 use Prim.Native.Nat.{◌+◌, ◌*◌}
 use lib.ListN.{get_or}
 use Rattle.kinds.specs.Kinds.{roles_of}

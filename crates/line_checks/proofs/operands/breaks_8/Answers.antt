@@ -1,10 +1,9 @@
 -- `lines::breaks_8` meets its contract: the line is a node or a row by its place.
 -- Assumes nothing.
-use borrow.Author.Rules.{rules}
 use native.Mathlib.Omega.{arith}
 use mathlib.Core.Path.{sym, ap}
 use mathlib.Core.Bool.{not}
-use Prim.Native.Nat.{◌-◌, ◌+◌, ◌<◌}
+use Prim.Native.Nat.{◌+◌, ◌<◌}
 use Rattle.model.specs.Accepted.{node_there, row_there}
 use Rattle.kinds.specs.Code.{table_by}
 use Rattle.kinds.proofs.LineLaws.{at-declaration, at-node, at_row}

@@ -1,13 +1,10 @@
 -- `types::fill_types` meets its contract: the nodes passed have their types in the buffer.
 -- Assumes nothing.
-use borrow.Author.Rules.{rules}
-use Prim.Native.Nat.{◌-◌, ◌≤◌, ◌<◌}
-use native.Mathlib.Omega.{arith}
+use Prim.Native.Nat.{◌-◌, ◌≤◌}
 use mathlib.Core.Path.{◌≡◌}
-use lib.ListN.{length, length-set}
+use lib.ListN.{length}
 use Rattle.kinds.specs.Code.{table_by}
 use Rattle.line_checks.specs.Code.{Types}
-use Rattle.line_checks.proofs.TypeLaws.{types_more}
 use Rattle.line_checks.proofs.types.fill_types.Given as goal
 
 abbrev pub invariant-loop-n : goal.invariant-loop-n

@@ -1,6 +1,5 @@
 -- `types::line_typed` meets its contract: the two cases of the definition.
 -- Assumes nothing.
-use borrow.Author.Rules.{rules}
 use mathlib.Core.Path.{sym, ◌∙◌}
 use borrow.Author.Tests.{eqb-true}
 use Rattle.model.proofs.ReduceLaws.{opens-43}

@@ -1,15 +1,11 @@
 -- `types::locals_uints` meets its contract: the locals passed are uints.
 -- Assumes nothing.
-use borrow.Author.Rules.{rules}
 use Prim.Native.Nat.{◌+◌, ◌-◌, ◌≤◌}
-use native.Mathlib.Omega.{arith}
-use mathlib.Core.Path.{◌≡◌, refl, sym}
+use mathlib.Core.Path.{◌≡◌}
 use mathlib.Core.Bool.{true}
 use lib.Dec.{eqb}
-use borrow.Author.Tests.{eq-eqb, ne_eqb}
 use Rattle.lists.specs.Tab.{all}
-use Rattle.lists.proofs.TabLaws.{all_more, all-stop}
-use Rattle.line_checks.specs.Code.{variable_type, locals_uints}
+use Rattle.line_checks.specs.Code.{variable_type}
 use Rattle.line_checks.proofs.types.locals_uints.Given as goal
 
 abbrev pub invariant-loop-i : goal.invariant-loop-i

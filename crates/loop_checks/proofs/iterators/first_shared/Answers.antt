@@ -1,18 +1,14 @@
 -- `iterators::first_shared` meets its contract: what is sought from line 0 on is what is sought from a row on, with the rows of the open loops kept.
 -- Assumes nothing.
 use borrow.Author.Rules.{rules}
-use Prim.Native.Nat.{ℕ, ◌+◌, ◌<◌, ◌≤◌, ◌-◌, ◌/◌}
+use Prim.Native.Nat.{◌+◌, ◌<◌}
 use native.Mathlib.Omega.{arith}
 use mathlib.Core.Path.{◌≡◌, refl, sym, ◌∙◌}
-use mathlib.Core.Logic.{⊎_elim}
-use mathlib.Core.Bool.{Bool}
-use lib.ListN.{length, set, length-set}
-use Rattle.lists.specs.First.{first}
-use Rattle.model.specs.Table.{Table, home, open_at}
-use Rattle.kinds.specs.Kinds.{of_row}
-use Rattle.kinds.specs.Code.{table_by, first_row}
+use lib.ListN.{set, length-set}
+use Rattle.model.specs.Table.{home, open_at}
+use Rattle.kinds.specs.Code.{table_by}
 use Rattle.kinds.proofs.LineLaws.{home-more, home-none, row-hit, row-miss, row-none, rows_start}
-use Rattle.loop_checks.specs.Rules.{shares_iterator, breaks16}
+use Rattle.loop_checks.specs.Rules.{breaks16}
 use Rattle.loop_checks.specs.Code.{kept_rows}
 use Rattle.loop_checks.proofs.IteratorLaws.{few-after, few-kept, kept-opening, kept-other, shares-by, shares-none}
 use Rattle.loop_checks.proofs.iterators.first_shared.Invariants.{shared}
@@ -62,32 +58,32 @@ loop-row-preserved c =
     let n = at_head.count in
     let kept = at_head.invariant.3 in
     elim c.if-nest-eq-OPENS.branch [
-      then-nest-eq-OPENS+else-opened_with w ↦
-    let opening = w.if-nest-eq-OPENS.true in
-    let few : n < 8 = few-kept t r nested.result nested.ensures b n kept (c.requires.1.rows r inside) opening in
-    let is : c.if-nest-eq-OPENS.opened ≡ set b n r = w.opened-is in
-    let shares = shares-by t r nested.result nested.ensures b n kept (home t r) opening in (
-      search rules,
-      omega (arith, counted.ensures.1),
-      rw (is, length-set b n r) at_head.invariant.2,
-      rw (is, counted.ensures.0) (kept-opening t r nested.result nested.ensures b n kept opening (omega (arith, at_head.invariant.2))),
-      at_head.invariant.4
-          ∙ row-miss (shared t) t c.requires.0 r inside (shares ∙ rw (sym at_head.invariant.6, sym w.iterator_of-iterator.ensures) (sym w.opened_with.ensures ∙ w.if-opened_with.false)),
-      search rules,
-      next,
-    )
+      | then-nest-eq-OPENS+else-opened_with w ↦
+          let opening = w.if-nest-eq-OPENS.true in
+          let few : n < 8 = few-kept t r nested.result nested.ensures b n kept (c.requires.1.rows r inside) opening in
+          let is : c.if-nest-eq-OPENS.opened ≡ set b n r = w.opened-is in
+          let shares = shares-by t r nested.result nested.ensures b n kept (home t r) opening in (
+            search rules,
+            omega (arith, counted.ensures.1),
+            rw (is, length-set b n r) at_head.invariant.2,
+            rw (is, counted.ensures.0) (kept-opening t r nested.result nested.ensures b n kept opening (omega (arith, at_head.invariant.2))),
+            at_head.invariant.4
+                ∙ row-miss (shared t) t c.requires.0 r inside (shares ∙ rw (sym at_head.invariant.6, sym w.iterator_of-iterator.ensures) (sym w.opened_with.ensures ∙ w.if-opened_with.false)),
+            search rules,
+            next,
+          )
       | else-nest-eq-OPENS w ↦
-    let other = w.if-nest-eq-OPENS.false in
-    let is : c.if-nest-eq-OPENS.opened ≡ b = w.opened-is in (
-      search rules,
-      few-after nested.result n 8 other counted.ensures.0 at_head.invariant.1,
-      rw is at_head.invariant.2,
-      rw (is, counted.ensures.0) (kept-other t r nested.result nested.ensures b n kept other),
-      at_head.invariant.4
-          ∙ row-miss (shared t) t c.requires.0 r inside (shares-none t r nested.result nested.ensures b n kept (home t r) other),
-      search rules,
-      next,
-    )
+          let other = w.if-nest-eq-OPENS.false in
+          let is : c.if-nest-eq-OPENS.opened ≡ b = w.opened-is in (
+            search rules,
+            few-after nested.result n 8 other counted.ensures.0 at_head.invariant.1,
+            rw is at_head.invariant.2,
+            rw (is, counted.ensures.0) (kept-other t r nested.result nested.ensures b n kept other),
+            at_head.invariant.4
+                ∙ row-miss (shared t) t c.requires.0 r inside (shares-none t r nested.result nested.ensures b n kept (home t r) other),
+            search rules,
+            next,
+          )
     ]
 
 pub returns : goal.returns

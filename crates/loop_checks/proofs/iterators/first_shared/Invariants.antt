@@ -1,22 +1,16 @@
 -- `iterators::first_shared` meets its contract: what is sought from line 0 on is what is sought from a row on, with the rows of the open loops kept.
 -- Assumes nothing.
-use borrow.Author.Rules.{rules}
-use Prim.Native.Nat.{ℕ, ◌+◌, ◌<◌, ◌≤◌, ◌-◌, ◌/◌}
-use native.Mathlib.Omega.{arith}
-use mathlib.Core.Path.{◌≡◌, refl, sym, ◌∙◌}
-use mathlib.Core.Logic.{⊎_elim}
+use Prim.Native.Nat.{ℕ, ◌≤◌, ◌-◌, ◌/◌}
+use mathlib.Core.Path.{◌≡◌}
 use mathlib.Core.Bool.{Bool}
-use lib.ListN.{length, set, length-set}
+use lib.ListN.{length}
 use Rattle.lists.specs.First.{first}
 use Rattle.model.specs.Table.{Table, home, open_at}
 use Rattle.kinds.specs.Kinds.{of_row}
 use Rattle.kinds.specs.Code.{table_by, first_row}
-use Rattle.kinds.proofs.LineLaws.{home-more, home-none, row-hit, row-miss, row-none, rows_start}
-use Rattle.loop_checks.specs.Rules.{shares_iterator, breaks16}
+use Rattle.loop_checks.specs.Rules.{shares_iterator}
 use Rattle.loop_checks.specs.Code.{kept_rows}
-use Rattle.loop_checks.proofs.IteratorLaws.{few-after, few-kept, kept-opening, kept-other, shares-by, shares-none}
 use Rattle.loop_checks.proofs.iterators.first_shared.Given as goal
-
 
 -- 16, of a row
 abbrev pub shared : Table → ℕ → Bool

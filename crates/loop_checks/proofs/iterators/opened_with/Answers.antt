@@ -3,10 +3,7 @@
 use borrow.Author.Rules.{rules}
 use Prim.Native.Nat.{◌<◌, ◌≤◌}
 use native.Mathlib.Omega.{arith}
-use mathlib.Core.Path.{◌≡◌, refl, sym, ◌∙◌}
-use Rattle.kinds.specs.Code.{table_by}
-use Rattle.loop_checks.specs.Rules.{any, opened_with}
-use Rattle.loop_checks.specs.Code.{kept_rows}
+use mathlib.Core.Path.{sym, ◌∙◌}
 use Rattle.loop_checks.proofs.IteratorLaws.{kept-hit, kept-miss, kept-none}
 use Rattle.loop_checks.proofs.iterators.opened_with.Goals as goal
 

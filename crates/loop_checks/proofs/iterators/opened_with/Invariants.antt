@@ -1,13 +1,10 @@
 -- `iterators::opened_with` meets its contract: what is sought among all open loops is what is sought among those left.
 -- Assumes nothing.
-use borrow.Author.Rules.{rules}
-use Prim.Native.Nat.{◌<◌, ◌≤◌}
-use native.Mathlib.Omega.{arith}
-use mathlib.Core.Path.{◌≡◌, refl, sym, ◌∙◌}
+use Prim.Native.Nat.{◌≤◌}
+use mathlib.Core.Path.{◌≡◌}
 use Rattle.kinds.specs.Code.{table_by}
 use Rattle.loop_checks.specs.Rules.{any, opened_with}
 use Rattle.loop_checks.specs.Code.{kept_rows}
-use Rattle.loop_checks.proofs.IteratorLaws.{kept-hit, kept-miss, kept-none}
 use Rattle.loop_checks.proofs.iterators.opened_with.Given as goal
 
 abbrev pub invariant-loop-left : goal.invariant-loop-left

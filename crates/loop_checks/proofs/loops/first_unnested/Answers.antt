@@ -1,15 +1,11 @@
 -- `loops::first_unnested` meets its contract: what is sought from line 0 on is what is sought from a row on.
 -- Assumes nothing.
 use borrow.Author.Rules.{rules}
-use Prim.Native.Nat.{◌≤◌, ◌-◌, ◌/◌}
 use native.Mathlib.Omega.{arith}
-use mathlib.Core.Path.{◌≡◌, refl, sym, ◌∙◌}
-use lib.ListN.{length}
-use Rattle.lists.specs.First.{first}
+use mathlib.Core.Path.{refl, sym, ◌∙◌}
 use Rattle.model.specs.Table.{open_at}
 use Rattle.model.specs.Accepted.{misnested}
-use Rattle.kinds.specs.Kinds.{of_row}
-use Rattle.kinds.specs.Code.{table_by, first_row}
+use Rattle.kinds.specs.Code.{table_by}
 use Rattle.kinds.proofs.LineLaws.{open_more, row-hit, row-miss, row-none, rows_start}
 use Rattle.loop_checks.specs.Rules.{breaks11}
 use Rattle.loop_checks.proofs.LoopLaws.{row_by}

@@ -1,18 +1,13 @@
 -- `loops::first_unnested` meets its contract: what is sought from line 0 on is what is sought from a row on.
 -- Assumes nothing.
-use borrow.Author.Rules.{rules}
 use Prim.Native.Nat.{◌≤◌, ◌-◌, ◌/◌}
-use native.Mathlib.Omega.{arith}
-use mathlib.Core.Path.{◌≡◌, refl, sym, ◌∙◌}
+use mathlib.Core.Path.{◌≡◌}
 use lib.ListN.{length}
 use Rattle.lists.specs.First.{first}
 use Rattle.model.specs.Table.{open_at}
 use Rattle.model.specs.Accepted.{misnested}
 use Rattle.kinds.specs.Kinds.{of_row}
 use Rattle.kinds.specs.Code.{table_by, first_row}
-use Rattle.kinds.proofs.LineLaws.{open_more, row-hit, row-miss, row-none, rows_start}
-use Rattle.loop_checks.specs.Rules.{breaks11}
-use Rattle.loop_checks.proofs.LoopLaws.{row_by}
 use Rattle.loop_checks.proofs.loops.first_unnested.Given as goal
 
 abbrev pub invariant-loop-row : goal.invariant-loop-row

@@ -1,13 +1,10 @@
 -- `loops::matching_end` meets its contract: the end is what the rest of the scan finds.
 -- Assumes nothing.
-use borrow.Author.Rules.{rules}
-use Prim.Native.Nat.{◌+◌, ◌-◌, ◌≤◌}
-use native.Mathlib.Omega.{arith}
-use mathlib.Core.Path.{◌≡◌, sym, ap, ◌∙◌}
+use Prim.Native.Nat.{◌-◌, ◌≤◌}
+use mathlib.Core.Path.{◌≡◌}
 use Rattle.model.specs.Table.{matching_end}
 use Rattle.kinds.specs.Code.{table_by}
 use Rattle.loop_checks.specs.Code.{scan_from}
-use Rattle.loop_checks.proofs.LoopLaws.{scan-start, scan-done, scan-hit, scan-next}
 use Rattle.loop_checks.proofs.loops.matching_end.Given as goal
 
 abbrev pub invariant-scan : goal.invariant-scan

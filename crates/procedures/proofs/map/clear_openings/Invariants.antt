@@ -1,11 +1,8 @@
 -- `map::clear_openings` meets its contract: the places passed have the row count.
 -- Assumes nothing.
-use borrow.Author.Rules.{rules}
 use Prim.Native.Nat.{ℕ, ◌≤◌, ◌<◌, ◌-◌}
-use native.Mathlib.Omega.{arith}
-use mathlib.Core.Path.{◌≡◌, refl}
-use lib.ListN.{length, get_or, length-set}
-use Rattle.kinds.proofs.LineLaws.{kept_more}
+use mathlib.Core.Path.{◌≡◌}
+use lib.ListN.{length, get_or}
 use Rattle.procedures.specs.Map.{map_size}
 use Rattle.procedures.proofs.map.clear_openings.Given as goal
 

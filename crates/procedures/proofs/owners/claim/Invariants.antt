@@ -1,13 +1,9 @@
 -- `owners::claim` meets its contract: the variables passed have their new numbers, the others their old ones.
 -- Assumes nothing.
-use borrow.Author.Rules.{rules}
 use Prim.Native.Nat.{ℕ, ◌≤◌, ◌<◌, ◌-◌}
-use native.Mathlib.Omega.{arith}
-use mathlib.Core.Path.{◌≡◌, refl, ◌∙◌}
-use lib.ListN.{length, get_or, length-set}
-use lib.Seq.{get_or-set_other}
+use mathlib.Core.Path.{◌≡◌}
+use lib.ListN.{length, get_or}
 use Rattle.model.specs.Table.{stretch, within}
-use Rattle.kinds.proofs.LineLaws.{kept_more}
 use Rattle.procedures.specs.Code.{claimed}
 use Rattle.procedures.proofs.owners.claim.Given as goal
 

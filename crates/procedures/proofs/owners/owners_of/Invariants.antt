@@ -1,13 +1,10 @@
 -- `owners::owners_of` meets its contract: the variables have the numbers that the rows passed give them.
 -- Assumes nothing.
-use borrow.Author.Rules.{rules}
 use Prim.Native.Nat.{◌≤◌, ◌-◌}
-use native.Mathlib.Omega.{arith}
-use mathlib.Core.Path.{◌≡◌, refl, sym, ◌∙◌}
-use mathlib.Core.Logic.{⊎_elim}
+use mathlib.Core.Path.{◌≡◌}
 use lib.ListN.{length}
 use Rattle.kinds.specs.Code.{table_by}
-use Rattle.procedures.proofs.OwnerLaws.{OwnersBefore, owners-all, owners-more, owners-none, owners-other}
+use Rattle.procedures.proofs.OwnerLaws.{OwnersBefore}
 use Rattle.procedures.proofs.owners.owners_of.Given as goal
 
 abbrev pub invariant-loop-row : goal.invariant-loop-row

@@ -1,10 +1,7 @@
 -- `rows::count_procedures` meets its contract: so many opened among the rows passed.
 -- Assumes nothing.
 use borrow.Author.Rules.{rules}
-use Prim.Native.Nat.{◌≤◌, ◌-◌}
-use native.Mathlib.Omega.{arith}
-use mathlib.Core.Path.{◌≡◌, sym, ap, ◌∙◌}
-use Rattle.model.specs.Procedures.{opened_before}
+use mathlib.Core.Path.{sym}
 use Rattle.kinds.specs.Code.{table_by}
 use Rattle.procedures.proofs.MapLaws.{opened-more, opened-none}
 use Rattle.procedures.proofs.rows.count_procedures.Goals as goal

@@ -1,12 +1,9 @@
 -- `rows::count_procedures` meets its contract: so many opened among the rows passed.
 -- Assumes nothing.
-use borrow.Author.Rules.{rules}
 use Prim.Native.Nat.{◌≤◌, ◌-◌}
-use native.Mathlib.Omega.{arith}
-use mathlib.Core.Path.{◌≡◌, sym, ap, ◌∙◌}
+use mathlib.Core.Path.{◌≡◌}
 use Rattle.model.specs.Procedures.{opened_before}
 use Rattle.kinds.specs.Code.{table_by}
-use Rattle.procedures.proofs.MapLaws.{opened-more, opened-none}
 use Rattle.procedures.proofs.rows.count_procedures.Given as goal
 
 abbrev pub invariant-loop-row : goal.invariant-loop-row

@@ -1,17 +1,12 @@
 -- `rows::first_row` meets its contract: what is sought from line 0 on is what is sought from a row on, with what was met before it.
 -- Assumes nothing.
 use borrow.Author.Rules.{rules}
-use Prim.Native.Nat.{◌≤◌, ◌-◌, ◌/◌}
-use mathlib.Core.Path.{◌≡◌, sym, ◌∙◌}
+use mathlib.Core.Path.{sym, ◌∙◌}
 use mathlib.Core.Bool.{not}
-use lib.ListN.{length}
-use Rattle.lists.specs.First.{first}
 use Rattle.model.specs.Procedures.{keeps_procedures}
-use Rattle.kinds.specs.Kinds.{of_row}
-use Rattle.kinds.specs.Code.{table_by, first_row}
+use Rattle.kinds.specs.Code.{table_by}
 use Rattle.kinds.proofs.LineLaws.{row-hit, row-miss, row-none, rows_start}
 use Rattle.procedures.specs.Misplaced.{breaks17}
-use Rattle.procedures.specs.Code.{MetBefore}
 use Rattle.procedures.proofs.RowLaws.{met-more, met-none}
 use Rattle.procedures.proofs.rows.first_row.Goals as goal
 

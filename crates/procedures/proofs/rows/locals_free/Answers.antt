@@ -1,10 +1,9 @@
 -- `rows::locals_free` meets its contract: the locals passed are free.
 -- Assumes nothing.
 use borrow.Author.Rules.{rules}
-use Prim.Native.Nat.{◌≤◌, ◌-◌}
 use native.Mathlib.Omega.{arith}
 use mathlib.Core.Path.{sym}
-use Rattle.procedures.proofs.RowLaws.{FreeUpTo, free_all, free_more, free-none, free-stop}
+use Rattle.procedures.proofs.RowLaws.{free_all, free_more, free-none, free-stop}
 use Rattle.procedures.proofs.rows.locals_free.Goals as goal
 
 pub returns-then-is_marked-owner_of : goal.returns-then-is_marked-owner_of

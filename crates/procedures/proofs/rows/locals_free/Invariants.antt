@@ -1,10 +1,7 @@
 -- `rows::locals_free` meets its contract: the locals passed are free.
 -- Assumes nothing.
-use borrow.Author.Rules.{rules}
 use Prim.Native.Nat.{◌≤◌, ◌-◌}
-use native.Mathlib.Omega.{arith}
-use mathlib.Core.Path.{sym}
-use Rattle.procedures.proofs.RowLaws.{FreeUpTo, free_all, free_more, free-none, free-stop}
+use Rattle.procedures.proofs.RowLaws.{FreeUpTo}
 use Rattle.procedures.proofs.rows.locals_free.Given as goal
 
 abbrev pub invariant-loop-i : goal.invariant-loop-i

@@ -1,10 +1,9 @@
 -- `rows::opens_rightly` meets its contract: the test, and what is asked where it holds.
 -- Assumes nothing.
-use borrow.Author.Rules.{rules}
 use lib.Dec.{ltb, eqb}
 use Rattle.model.specs.Table.{between}
 use Rattle.procedures.specs.Code.{opens_by}
-use Rattle.procedures.proofs.RowLaws.{opens-else, opens-then, some-locals}
+use Rattle.procedures.proofs.RowLaws.{opens-else, opens-then}
 use Rattle.procedures.proofs.rows.opens_rightly.Goals as goal
 
 pub returns-then-met-count : goal.returns-then-met-count

@@ -1,6 +1,5 @@
 -- `rows::row_misplaced` meets its contract: what the calls find is what the definition says of the row.
 -- Assumes nothing.
-use borrow.Author.Rules.{rules}
 use native.Mathlib.Omega.{arith}
 use Rattle.kinds.specs.Code.{table_by}
 use Rattle.kinds.proofs.LineLaws.{locals-fit}

@@ -1,6 +1,5 @@
 -- `rows::rule_kept` meets its contract: the same cases by the same numbers.
 -- Assumes nothing.
-use borrow.Author.Rules.{rules}
 use Rattle.lists.proofs.Flags.{flags}
 use Rattle.procedures.specs.Code.{rule_by}
 use Rattle.procedures.proofs.rows.rule_kept.Goals as goal

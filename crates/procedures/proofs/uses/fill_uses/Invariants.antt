@@ -1,13 +1,10 @@
 -- `uses::fill_uses` meets its contract: the nodes passed have their numbers in the buffer.
 -- Assumes nothing.
-use borrow.Author.Rules.{rules}
-use Prim.Native.Nat.{◌-◌, ◌≤◌, ◌<◌}
-use native.Mathlib.Omega.{arith}
+use Prim.Native.Nat.{◌-◌, ◌≤◌}
 use mathlib.Core.Path.{◌≡◌}
-use lib.ListN.{length, length-set}
+use lib.ListN.{length}
 use Rattle.kinds.specs.Code.{table_by}
 use Rattle.procedures.specs.Code.{Summaries}
-use Rattle.procedures.proofs.SummaryLaws.{summaries-more}
 use Rattle.procedures.proofs.uses.fill_uses.Given as goal
 
 abbrev pub invariant-loop-n : goal.invariant-loop-n

@@ -1,6 +1,5 @@
 -- `uses::operand_uses` meets its contract: the same tests in the same order.
 -- Assumes nothing.
-use borrow.Author.Rules.{rules}
 use borrow.Author.Tests.{eq-eqb, ne_eqb}
 use Rattle.lists.proofs.Flags.{flags}
 use Rattle.procedures.specs.Code.{operand_by}

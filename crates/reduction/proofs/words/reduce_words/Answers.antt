@@ -1,12 +1,11 @@
 -- The loop has written the reduction's words below i.
 use borrow.Author.Rules.{rules}
 use native.Mathlib.Omega.{arith}
-use Prim.Native.Nat.{◌-◌, ◌≤◌}
 use mathlib.Core.Path.{◌≡◌, refl}
-use lib.ListN.{length, take, length-set}
+use lib.ListN.{length, length-set}
 use Rattle.lists.specs.Tab.{tab}
 use Rattle.lists.proofs.TabLaws.{tab-more, tab-all}
-use Rattle.model.specs.Reduce.{reduced_word, reduce}
+use Rattle.model.specs.Reduce.{reduce}
 use Rattle.reduction.proofs.words.reduce_words.Goals as goal
 
 pub loop-i-init : goal.loop-i-init

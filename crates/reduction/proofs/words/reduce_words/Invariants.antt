@@ -1,12 +1,9 @@
 -- The loop has written the reduction's words below i.
-use borrow.Author.Rules.{rules}
-use native.Mathlib.Omega.{arith}
 use Prim.Native.Nat.{◌-◌, ◌≤◌}
-use mathlib.Core.Path.{◌≡◌, refl}
-use lib.ListN.{length, take, length-set}
+use mathlib.Core.Path.{◌≡◌}
+use lib.ListN.{length, take}
 use Rattle.lists.specs.Tab.{tab}
-use Rattle.lists.proofs.TabLaws.{tab-more, tab-all}
-use Rattle.model.specs.Reduce.{reduced_word, reduce}
+use Rattle.model.specs.Reduce.{reduced_word}
 use Rattle.reduction.proofs.words.reduce_words.Given as goal
 
 abbrev pub invariant-loop-i : goal.invariant-loop-i

@@ -1,6 +1,5 @@
 -- The code's branches are those of the definition.
 use mathlib.Core.Path.{sym, ◌∙◌}
-use borrow.Author.Rules.{rules}
 use Rattle.lists.proofs.Flags.{flags}
 use Rattle.model.specs.Reduce.{reduced_kind}
 use Rattle.reduction.proofs.words.reduced_kind.Goals as goal

@@ -1,8 +1,6 @@
 -- `checks::check_lines` meets its contract: each check in turn.
 -- Assumes nothing.
-use borrow.Author.Rules.{rules}
 use Prim.Native.Nat.{ℕ}
-use native.Mathlib.Omega.{arith}
 use mathlib.Core.Path.{sym, ◌∙◌}
 use mathlib.Core.List.{[], ◌∷◌}
 use Rattle.lists.specs.declared.Found.{Found}
@@ -39,8 +37,8 @@ returns-in-At-first_line-2 c =
 pub first_line-requires-4-clause-in_sorts : goal.first_line-requires-4-clause-in_sorts
 first_line-requires-4-clause-in_sorts c =
     let a = c.args in λ e. laid_of a.reduced a.words.now a.counts c.requires.words_len.0 c.requires.words_len.1
-          (sym c.first_line.ensures ∙ c.in_default.is)
-          (sym c.first_line-2.ensures ∙ c.in_default-first_line.is)
+    (sym c.first_line.ensures ∙ c.in_default.is)
+    (sym c.first_line-2.ensures ∙ c.in_default-first_line.is)
 
 pub returns-in-At-first_line-3 : goal.returns-in-At-first_line-3
 returns-in-At-first_line-3 c =

@@ -1,8 +1,7 @@
 -- `checks::check_with` meets its contract: each check in turn.
 -- Assumes nothing.
-use borrow.Author.Rules.{rules}
 use Prim.Native.Nat.{ℕ}
-use mathlib.Core.Path.{refl, sym, ◌∙◌}
+use mathlib.Core.Path.{sym, ◌∙◌}
 use mathlib.Core.List.{[], ◌∷◌}
 use Rattle.lists.specs.declared.Found.{Found}
 use Rattle.table.specs.Code.{first_of}

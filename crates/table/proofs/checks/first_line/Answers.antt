@@ -1,15 +1,11 @@
 -- `checks::first_line` meets its contract: what is sought from 0 on is what is sought from `i` on.
 -- Assumes nothing.
 use borrow.Author.Rules.{rules}
-use Prim.Native.Nat.{◌≤◌, ◌-◌}
-use native.Mathlib.Nat.{sub-zero}
-use mathlib.Core.Path.{◌≡◌, sym, ◌∙◌}
-use Rattle.lists.specs.First.{first}
+use mathlib.Core.Path.{sym, ◌∙◌}
 use Rattle.lists.proofs.FirstLaws.{first-hit, first-miss, first-none}
 use Rattle.kinds.specs.Kinds.{machine_of}
 use Rattle.kinds.specs.Code.{table_by}
 use Rattle.table.specs.Checks.{breaks}
-use Rattle.table.specs.Code.{first_of}
 use Rattle.table.proofs.checks.first_line.Goals as goal
 
 pub returns-then-line_breaks : goal.returns-then-line_breaks

@@ -1,11 +1,8 @@
 -- `checks::first_line` meets its contract: what is sought from 0 on is what is sought from `i` on.
 -- Assumes nothing.
-use borrow.Author.Rules.{rules}
 use Prim.Native.Nat.{◌≤◌, ◌-◌}
-use native.Mathlib.Nat.{sub-zero}
-use mathlib.Core.Path.{◌≡◌, sym, ◌∙◌}
+use mathlib.Core.Path.{◌≡◌}
 use Rattle.lists.specs.First.{first}
-use Rattle.lists.proofs.FirstLaws.{first-hit, first-miss, first-none}
 use Rattle.kinds.specs.Kinds.{machine_of}
 use Rattle.kinds.specs.Code.{table_by}
 use Rattle.table.specs.Checks.{breaks}

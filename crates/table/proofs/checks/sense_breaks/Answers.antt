@@ -1,6 +1,5 @@
 -- `checks::sense_breaks` meets its contract: one check for each number.
 -- Assumes nothing.
-use borrow.Author.Rules.{rules}
 use native.Mathlib.Omega.{arith}
 use mathlib.Core.Path.{◌≡◌}
 use Rattle.table.specs.Checks.{breaks}

@@ -1,14 +1,12 @@
 -- `sorts::counts_of` meets its contract: each count is a sum over the lines passed.
 -- Assumes nothing.
 use borrow.Author.Rules.{rules}
-use Prim.Native.Nat.{◌≤◌, ◌-◌, ◌/◌}
 use native.Mathlib.Omega.{arith}
-use mathlib.Core.Path.{◌≡◌, refl}
-use lib.ListN.{length}
+use mathlib.Core.Path.{refl}
 use Rattle.lists.specs.Tab.{sum}
 use Rattle.lists.proofs.TabLaws.{sum_more}
 use Rattle.model.specs.Table.{is_declaration, is_node, is_row}
-use Rattle.table.specs.Code.{one, up_to}
+use Rattle.table.specs.Code.{one}
 use Rattle.table.proofs.sorts.counts_of.Goals as goal
 
 pub loop-i-init : goal.loop-i-init

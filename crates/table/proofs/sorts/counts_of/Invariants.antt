@@ -1,14 +1,9 @@
 -- `sorts::counts_of` meets its contract: each count is a sum over the lines passed.
 -- Assumes nothing.
-use borrow.Author.Rules.{rules}
-use Prim.Native.Nat.{◌≤◌, ◌-◌, ◌/◌}
-use native.Mathlib.Omega.{arith}
-use mathlib.Core.Path.{◌≡◌, refl}
-use lib.ListN.{length}
-use Rattle.lists.specs.Tab.{sum}
-use Rattle.lists.proofs.TabLaws.{sum_more}
+use Prim.Native.Nat.{◌≤◌, ◌-◌}
+use mathlib.Core.Path.{◌≡◌}
 use Rattle.model.specs.Table.{is_declaration, is_node, is_row}
-use Rattle.table.specs.Code.{one, up_to}
+use Rattle.table.specs.Code.{up_to}
 use Rattle.table.proofs.sorts.counts_of.Given as goal
 
 abbrev pub invariant-loop-i : goal.invariant-loop-i

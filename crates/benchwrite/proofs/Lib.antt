@@ -1,2 +1,0 @@
--- Why the lists are long enough.
-pub mod ListLaws

@@ -1,2 +1,0 @@
--- Why the code meets the definitions.
-pub mod MessageLaws
