@@ -6,8 +6,8 @@ use mathlib.Core.Path.{◌≡◌, refl, sym, ap, ◌∙◌}
 use mathlib.Core.Logic.{◌≢◌}
 use mathlib.Core.Bool.{Bool, true, false, ◌&&◌}
 use mathlib.Core.List.{List, [], ◌∷◌}
-use lib.ListN.{length, get_or, set, replicate, get_or-replicate}
-use lib.Seq.{length-paste, get_or-set_same, get_or-set_other}
+use lib.ListN.{length, get_or, replicate, get_or-replicate}
+use lib.Seq.{length-paste}
 use lib.Dec.{ltb, leb}
 use borrow.Author.Tests.{ltb-true, ltb-false, leb-true, leb-false, ne_eqb}
 use Rattle.lists.specs.If.{if◌then◌else◌}
@@ -17,8 +17,8 @@ use Rattle.model.specs.Table.{Stretch, stretch, within, locals_at}
 use Rattle.model.specs.State.{Value}
 use Rattle.model.specs.State.Value.{Uint}
 use Rattle.model.specs.Step.{numbers_in, renumbered, handed_over, argument}
-use Rattle.prepared.specs.View.{by_form, vars_by}
-use Rattle.prepared.specs.Own.{decls_of, rows_of, own_table, own_form, own_vars}
+use Rattle.prepared.specs.View.{vars_by}
+use Rattle.prepared.specs.Own.{decls_of, rows_of, own_table, own_vars}
 use Rattle.prepared.proofs.VarLaws.{value_in}
 use Rattle.prepared.proofs.PasteLaws.{paste-before, paste-in, paste-after}
 use Rattle.calls.specs.CallAndReturn.{LocalsWithin, Procedures}

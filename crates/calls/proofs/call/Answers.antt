@@ -1,9 +1,6 @@
 -- The caller is put aside, the last word says that there is one more, and the locals are handed over.
 -- Assumes nothing.
-use native.Mathlib.Omega.{arith}
-use borrow.Author.Rules.{rules}
-use Rattle.calls.proofs.VarLaws.{locals-fit}
-use Rattle.calls.proofs.CallLaws.{next-there, called}
+use Rattle.calls.proofs.CallLaws.{called}
 use Rattle.calls.proofs.call.Goals as goal
 
 pub returns : goal.returns

@@ -1,7 +1,6 @@
 -- The locals are put back, then the variable of the 45 gets the number; the loops come back, and the last word says that there is one caller less.
 -- Assumes nothing.
 use native.Mathlib.Omega.{arith}
-use borrow.Author.Rules.{rules}
 use Rattle.calls.proofs.VarLaws.{locals-fit}
 use Rattle.calls.proofs.ReturnLaws.{back-there, receives, returned}
 use Rattle.calls.proofs.give_back.Goals as goal
@@ -13,10 +12,10 @@ home_at-requires-2 c =
 pub put_back-requires-clause-own_bound : goal.put_back-requires-clause-own_bound
 put_back-requires-clause-own_bound c =
     let back = back-there _ _ c.requires.0 _ _ c.requires.1 in (
-        c.requires.0.decls,
-        locals-fit _ _ c.requires.0 _ c.requires.1.row c.home_at.ensures,
-        locals-fit _ _ c.requires.0 _ back c.home_at-2.ensures,
-      )
+      c.requires.0.decls,
+      locals-fit _ _ c.requires.0 _ c.requires.1.row c.home_at.ensures,
+      locals-fit _ _ c.requires.0 _ back c.home_at-2.ensures,
+    )
 
 pub put_back-requires-clause-c_bound : goal.put_back-requires-clause-c_bound
 put_back-requires-clause-c_bound c =

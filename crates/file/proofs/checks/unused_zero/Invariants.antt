@@ -4,7 +4,6 @@ use Rattle.lists.specs.Tab.{all}
 use Rattle.file.specs.Reading.{word}
 use Rattle.file.proofs.checks.unused_zero.Given as goal
 
-
 -- whether the j-th of block k's words after its c lines is zero
 abbrev pub zero-at : List ℕ → ℕ → ℕ → ℕ → Bool
 zero-at bytes k c j = eqb (word bytes k (4 * c + j)) 0

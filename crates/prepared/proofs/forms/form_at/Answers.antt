@@ -1,7 +1,5 @@
 -- By the number of the form.
 -- Assumes nothing.
-use borrow.Author.Tests.{ne_eqb}
-use borrow.Author.Rules.{rules}
 use Rattle.prepared.specs.Own.{own_form}
 use Rattle.lists.proofs.Flags.{flags}
 use Rattle.prepared.proofs.forms.form_at.Goals as goal

@@ -2,7 +2,6 @@
 -- Assumes nothing.
 use mathlib.Core.Path.{sym, ◌∙◌}
 use Rattle.prepared.proofs.FormLaws.{form-bool, form-pointer, form-unmarked, form-plain, form-class}
-use borrow.Author.Rules.{rules}
 use native.Mathlib.Omega.{arith}
 use Rattle.prepared.proofs.forms.form_of.Goals as goal
 

@@ -1,7 +1,6 @@
 -- One copy after another.
 -- Assumes nothing.
 use Rattle.prepared.proofs.OwnLaws.{copies-made}
-use borrow.Author.Rules.{rules}
 use Rattle.prepared.proofs.own.copy_lines.Goals as goal
 
 pub returns : goal.returns

@@ -1,10 +1,6 @@
 -- The lines are copied into zeros, what the run is told is set, and then the forms are.
 -- Assumes nothing.
-use native.Mathlib.Omega.{arith}
-use mathlib.Core.Path.{◌∙◌, ap}
-use lib.ListN.{length}
-use borrow.Author.Rules.{rules}
-use Rattle.prepared.proofs.OwnLaws.{long-blank, length-copied, length-told, laid_out}
+use Rattle.prepared.proofs.OwnLaws.{laid_out}
 use Rattle.prepared.proofs.own.lay_out.Goals as goal
 
 pub returns : goal.returns

@@ -1,12 +1,8 @@
 -- The loop has set the forms of the variables below a.
 -- Assumes nothing.
 use Prim.Native.Nat.{◌-◌, ◌≤◌}
-use native.Mathlib.Omega.{arith}
-use mathlib.Core.Path.{◌≡◌, refl, ap, ◌∙◌}
-use borrow.Author.Rules.{rules}
-use Rattle.prepared.specs.Own.{number_of_form}
+use mathlib.Core.Path.{◌≡◌}
 use Rattle.prepared.specs.CodeOwn.{Formed}
-use Rattle.prepared.proofs.FormLaws.{formed-none, formed-more}
 use Rattle.prepared.proofs.own.set_forms.Given as goal
 
 abbrev pub invariant-loop-a : goal.invariant-loop-a

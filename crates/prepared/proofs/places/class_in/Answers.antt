@@ -1,7 +1,6 @@
 -- By the pair where the copy says that there are places, and by none else.
 -- Assumes nothing.
 use borrow.Author.Tests.{eq-eqb, ne_eqb}
-use borrow.Author.Rules.{rules}
 use Rattle.model.specs.Class.{class}
 use Rattle.prepared.specs.Own.{places_of}
 use Rattle.prepared.proofs.places.class_in.Goals as goal

@@ -8,12 +8,12 @@ use Rattle.records.proofs.ArrayLaws.{Laying, laying-many, laying-all, laying-nex
 use Rattle.records.proofs.arrays.arrays_fit.Goals as goal
 
 pub returns-then-m-gt-ARRAYS : goal.returns-then-m-gt-ARRAYS
-returns-then-m-gt-ARRAYS c = λ vs callers. let g = c.args in laying-many g.cells.now g.f g.t3 c.if-m-gt-ARRAYS.true
+returns-then-m-gt-ARRAYS c = λ vs callers. let g = c.args in laying-many g.cells.now g.f g.m c.if-m-gt-ARRAYS.true
 
 pub loop-i-init : goal.loop-i-init
 loop-i-init c =
     let g = c.args in
-    (omega arith, refl, omega arith, omega arith, laying-all g.cells.now g.f g.t3 (omega (arith, c.if-m-gt-ARRAYS.false)))
+    (omega arith, refl, omega arith, omega arith, laying-all g.cells.now g.f g.m (omega (arith, c.if-m-gt-ARRAYS.false)))
 
 pub loop-i-preserved : goal.loop-i-preserved
 loop-i-preserved c =
@@ -23,7 +23,7 @@ loop-i-preserved c =
       l.invariant.1,
       l.invariant.2,
       omega arith,
-      laying-next g.cells.now g.f g.t3 l.from l.i l.invariant.4 (omega arith)
+      laying-next g.cells.now g.f g.m l.from l.i l.invariant.4 (omega arith)
           c.size_for.ensures (sym c.array_fits.ensures ∙ c.if-array_fits.true),
     )
 
@@ -31,10 +31,10 @@ pub returns-else-array_fits : goal.returns-else-array_fits
 returns-else-array_fits c = λ vs callers.
     let g = c.args in
     let l = c.loop-i in
-    laying-off g.cells.now g.f g.t3 l.from l.i l.invariant.4 (omega arith) (sym c.array_fits.ensures ∙ c.if-array_fits.false)
+    laying-off g.cells.now g.f g.m l.from l.i l.invariant.4 (omega arith) (sym c.array_fits.ensures ∙ c.if-array_fits.false)
 
 pub returns : goal.returns
 returns c = λ vs callers.
     let g = c.args in
     let l = c.loop-i in
-    laying-done g.cells.now g.f g.t3 l.from l.i l.invariant.4 (omega arith)
+    laying-done g.cells.now g.f g.m l.from l.i l.invariant.4 (omega arith)

@@ -10,7 +10,7 @@ use Rattle.records.proofs.VariableLaws.{Idles, idle-none, idle-next, idle-off, i
 use Rattle.records.proofs.variables.locals_idle.Goals as goal
 
 pub loop-i-init : goal.loop-i-init
-loop-i-init c = let g = c.args in (omega arith, c.owners_of-owners.ensures, idle-none g.t.now g.f g.t3)
+loop-i-init c = let g = c.args in (omega arith, c.owners_of-owners.ensures, idle-none g.t.now g.f g.m)
 
 pub loop-i-preserved : goal.loop-i-preserved
 loop-i-preserved c =
@@ -18,7 +18,7 @@ loop-i-preserved c =
     let l = c.loop-i in (
       omega arith,
       l.invariant.1,
-      idle-next g.t.now g.f g.t3 c.requires.1 c.requires.2 l.i (omega arith)
+      idle-next g.t.now g.f g.m c.requires.1 c.requires.2 l.i (omega arith)
           (l.invariant.1.right l.i (omega (arith, c.requires.0.few_decls))) l.invariant.2 (sym c.may_hold.ensures ∙ c.if-may_hold.true),
     )
 
@@ -26,5 +26,5 @@ pub returns-else-may_hold : goal.returns-else-may_hold
 returns-else-may_hold c = λ callers cells.
     let g = c.args in
     let l = c.loop-i in
-    idle-off g.t.now g.f g.t3 c.requires.1 c.requires.2 l.i (omega arith)
+    idle-off g.t.now g.f g.m c.requires.1 c.requires.2 l.i (omega arith)
     (l.invariant.1.right l.i (omega (arith, c.requires.0.few_decls))) (sym c.may_hold.ensures ∙ c.if-may_hold.false)

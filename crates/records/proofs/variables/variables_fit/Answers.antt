@@ -8,14 +8,14 @@ use Rattle.records.proofs.VariableLaws.{Fits, vars-none, vars-next, vars-off, va
 use Rattle.records.proofs.variables.variables_fit.Goals as goal
 
 pub loop-i-init : goal.loop-i-init
-loop-i-init c = let g = c.args in (omega arith, vars-none g.t.now g.f g.t3)
+loop-i-init c = let g = c.args in (omega arith, vars-none g.t.now g.f g.m)
 
 pub loop-i-preserved : goal.loop-i-preserved
 loop-i-preserved c =
     let g = c.args in
     let l = c.loop-i in (
       omega arith,
-      vars-next g.t.now g.f g.t3 l.i (omega arith) c.form_of-form.ensures l.invariant.1
+      vars-next g.t.now g.f g.m l.i (omega arith) c.form_of-form.ensures l.invariant.1
           (sym c.variable_fits.ensures ∙ c.if-variable_fits.true),
     )
 
@@ -23,11 +23,11 @@ pub returns-else-variable_fits : goal.returns-else-variable_fits
 returns-else-variable_fits c = λ callers cells.
     let g = c.args in
     let l = c.loop-i in
-    vars-off g.t.now g.f g.t3 l.i (omega arith) c.form_of-form.ensures
+    vars-off g.t.now g.f g.m l.i (omega arith) c.form_of-form.ensures
     (sym c.variable_fits.ensures ∙ c.if-variable_fits.false)
 
 pub returns : goal.returns
 returns c = λ callers cells.
     let g = c.args in
     let l = c.loop-i in
-    vars-done g.t.now g.f g.t3 l.i l.invariant.1 (omega arith)
+    vars-done g.t.now g.f g.m l.i l.invariant.1 (omega arith)

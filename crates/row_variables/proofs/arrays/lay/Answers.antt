@@ -10,7 +10,7 @@ pub returns-then-lacks_room : goal.returns-then-lacks_room
 unfolding lay_of
 returns-then-lacks_room c =
     rw (
-      sym c.fits2.ensures ∙ c.if-fits.true,
+      sym c.fits.ensures ∙ c.if-fits.true,
       ← c.used_in-used.ensures.0,
       ← c.size_for-size.ensures,
       sym c.lacks_room.ensures ∙ c.if-lacks_room.true,
@@ -20,7 +20,7 @@ pub returns-then-fits : goal.returns-then-fits
 unfolding lay_of
 returns-then-fits c =
     rw (
-      sym c.fits2.ensures ∙ c.if-fits.true,
+      sym c.fits.ensures ∙ c.if-fits.true,
       ← c.used_in-used.ensures.0,
       ← c.size_for-size.ensures,
       sym c.lacks_room.ensures ∙ c.if-lacks_room.false,
@@ -28,4 +28,4 @@ returns-then-fits c =
 
 pub returns : goal.returns
 unfolding lay_of
-returns c = rw (sym c.fits2.ensures ∙ c.if-fits.false)
+returns c = rw (sym c.fits.ensures ∙ c.if-fits.false)

@@ -13,7 +13,7 @@ returns-then-from-upto c =
       ← c.row_word-a.ensures,
       ← c.iterator_form.ensures,
       ← c.iterator_number-v.ensures,
-      ← c.fits2.ensures,
+      ← c.fits.ensures,
       c.if-fits.true,
       le-leb _ _ c.if-from-upto.true,
     )
@@ -24,7 +24,7 @@ returns-in_default c =
     rw (
       ← c.row_word-a.ensures,
       ← c.iterator_form.ensures,
-      ← c.fits2.ensures,
+      ← c.fits.ensures,
       c.if-fits.true,
       lt-leb _ _ c.if-from-upto.false,
       ← c.way_out-x.ensures,
@@ -44,7 +44,7 @@ returns-then-fits c =
       ← c.row_word-a.ensures,
       ← c.iterator_form.ensures,
       ← c.iterator_number-v.ensures,
-      ← c.fits2.ensures,
+      ← c.fits.ensures,
       c.if-fits.true,
       lt-leb _ _ c.if-from-upto.false,
       ← c.way_out-x.ensures,
@@ -54,4 +54,4 @@ returns-then-fits c =
 pub returns : goal.returns
 unfolding entry_of
 returns c =
-    rw (← c.row_word-a.ensures, ← c.iterator_form.ensures, ← c.fits2.ensures, c.if-fits.false)
+    rw (← c.row_word-a.ensures, ← c.iterator_form.ensures, ← c.fits.ensures, c.if-fits.false)

@@ -1,5 +1,6 @@
 -- By the type of the variable.
 -- Assumes nothing.
+use native.Mathlib.Omega.{arith}
 use mathlib.Core.Path.{sym, ◌∙◌}
 use Rattle.row_kinds.proofs.PutLaws.{type-bool, type-uint, type-pointer, puts-bool, puts-uint, puts-pointer}
 use borrow.Author.Rules.{rules}
@@ -24,5 +25,5 @@ returns-in_default c =
     let a = c.args in
     λ row loops d stack rows starts ends. rw c.put_pointer.ensures
     (puts-pointer a.own.now stack _ a.cells.now a.list.now c.requires.own_bound.0 c.requires.ns_len.0 c.requires.ns_len.1 a.a a.b d _ _
-    (type-pointer (λ e. c.in_default.rest.0.1 (c.word_or_zero-kind.ensures ∙ e))
-    (λ e. c.in_default.rest.1 (c.word_or_zero-kind.ensures ∙ e))) c.pointer_at.ensures)
+    (type-pointer (λ e. omega arith)
+    (λ e. omega arith)) c.pointer_at.ensures)
