@@ -22,7 +22,7 @@ use Rattle.model.specs.Table.Node.{variable, uint_constant, bool_constant, cell,
 use Rattle.model.specs.Table.Node.{reduced_cell, reduced_valid, no_node}
 use Rattle.model.specs.Work.{Out, Work, next, give, wrong, choose}
 use Rattle.model.specs.Work.Out.{gives, fails, bad_choice, no_choice, stuck}
-use Rattle.model.specs.State.{Array, Value}
+use Rattle.model.specs.State.{Array}
 use Rattle.model.specs.State.Value.{Uint}
 use Rattle.model.specs.Eval.{Of, of_type, as_uint, as_bool, as_pointer, as_class, variable_of, array_of, no_array, present}
 use Rattle.reader.specs.Choose.{choice_at}

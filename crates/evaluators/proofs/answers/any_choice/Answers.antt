@@ -3,7 +3,6 @@
 use mathlib.Core.Path.{refl}
 use mathlib.Core.Bool.{true}
 use Rattle.evaluators.proofs.ViewLaws.{chosen-one, chosen_none}
-use borrow.Author.Rules.{rules}
 use Rattle.evaluators.proofs.answers.any_choice.Goals as goal
 
 pub returns-in_default : goal.returns-in_default

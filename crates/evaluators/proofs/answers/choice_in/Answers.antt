@@ -6,7 +6,6 @@ use borrow.Author.Tests.{eq-eqb, ne_eqb}
 use Rattle.model.specs.Class.{class}
 use Rattle.prepared.specs.Own.{places_of}
 use Rattle.evaluators.proofs.ViewLaws.{chosen-one, chosen-bad, chosen_none}
-use borrow.Author.Rules.{rules}
 use Rattle.evaluators.proofs.answers.choice_in.Goals as goal
 
 pub returns-in_default : goal.returns-in_default

@@ -6,7 +6,6 @@ use borrow.Author.Tests.{le-leb, lt-leb}
 use Rattle.model.specs.Table.Ty.{uint}
 use Rattle.evaluators.specs.CodeLeaves.{arith as arith_of}
 use Rattle.evaluators.proofs.AnswerLaws.{said-uint, said-fails}
-use borrow.Author.Rules.{rules}
 use Rattle.evaluators.proofs.answers.computed.Goals as goal
 
 pub returns-then-w-v : goal.returns-then-w-v

@@ -5,7 +5,6 @@ use Prim.Native.Nat.{◌+◌, ◌≤◌, ◌<◌}
 use borrow.Author.Tests.{le-leb, lt-leb}
 use Rattle.model.specs.Table.Ty.{uint}
 use Rattle.evaluators.proofs.AnswerLaws.{said-uint, said-fails}
-use borrow.Author.Rules.{rules}
 use Rattle.evaluators.proofs.answers.next_start.Goals as goal
 
 pub returns-then-v-lt4294967295 : goal.returns-then-v-lt4294967295

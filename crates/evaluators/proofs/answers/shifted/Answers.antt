@@ -1,7 +1,6 @@
 -- The place is computed, and the array goes with it.
 -- Assumes nothing.
 use Rattle.evaluators.proofs.AnswerLaws.{moved_then, moved-else}
-use borrow.Author.Rules.{rules}
 use Rattle.evaluators.proofs.OtherAnswers.{answer-no-uint}
 use Rattle.evaluators.proofs.answers.shifted.Goals as goal
 

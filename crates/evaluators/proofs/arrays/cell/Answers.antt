@@ -5,7 +5,6 @@ use borrow.Author.Tests.{lt-ltb, le-ltb}
 use Rattle.model.specs.Table.Ty.{uint}
 use Rattle.evaluators.specs.CodeLeaves.{target_out, load_of}
 use Rattle.evaluators.proofs.AnswerLaws.{said-fails, said-stuck}
-use borrow.Author.Rules.{rules}
 use Rattle.evaluators.proofs.arrays.cell.Goals as goal
 
 pub returns-then-len-place : goal.returns-then-len-place

@@ -6,7 +6,6 @@ use Rattle.prepared.specs.Own.{places_of}
 use Rattle.evaluators.specs.CodeLeaves.{read_of, stored_in, tracked_in}
 use Rattle.evaluators.proofs.AnswerLaws.{says_same}
 use Rattle.evaluators.proofs.ViewLaws.{read_plain}
-use borrow.Author.Rules.{rules}
 use Rattle.evaluators.proofs.arrays.kept_cell.Goals as goal
 
 pub returns-then-tracking : goal.returns-then-tracking

@@ -1,7 +1,6 @@
 -- Array i + 1 is entry i of the columns.
 -- Assumes nothing.
 use Rattle.evaluators.proofs.ViewLaws.{points_none, points-lacking, points_to}
-use borrow.Author.Rules.{rules}
 use Rattle.evaluators.proofs.arrays.pointed.Goals as goal
 
 pub returns-then-to-eq0 : goal.returns-then-to-eq0

@@ -4,7 +4,6 @@ use borrow.Author.Tests.{lt-ltb, le-ltb}
 use Rattle.model.specs.Table.Ty.{uint}
 use Rattle.evaluators.specs.CodeLeaves.{stored_in}
 use Rattle.evaluators.proofs.AnswerLaws.{said-uint, said-stuck}
-use borrow.Author.Rules.{rules}
 use Rattle.evaluators.proofs.arrays.stored.Goals as goal
 
 pub returns-then-size-i : goal.returns-then-size-i

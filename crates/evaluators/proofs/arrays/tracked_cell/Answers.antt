@@ -1,7 +1,6 @@
 -- A tracked place has a cell, by its class; any other takes a choice (rule 3.15).
 -- Assumes nothing.
 use Rattle.evaluators.specs.CodeLeaves.{tracked_in}
-use borrow.Author.Rules.{rules}
 use Rattle.evaluators.proofs.arrays.tracked_cell.Goals as goal
 
 pub returns-then-is_tracked : goal.returns-then-is_tracked

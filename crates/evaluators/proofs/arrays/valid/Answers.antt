@@ -5,7 +5,6 @@ use Rattle.model.specs.Table.Ty.{bool}
 use Rattle.evaluators.specs.CodeLeaves.{target_out}
 use Rattle.evaluators.proofs.AnswerLaws.{said-bool, said-stuck}
 use Rattle.evaluators.proofs.ViewLaws.{valid-by}
-use borrow.Author.Rules.{rules}
 use Rattle.evaluators.proofs.arrays.valid.Goals as goal
 
 pub returns-in-Array : goal.returns-in-Array

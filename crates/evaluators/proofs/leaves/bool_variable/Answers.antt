@@ -1,7 +1,6 @@
 -- By the form of the variable.
 -- Assumes nothing.
 use Rattle.evaluators.proofs.ViewLaws.{holds-out, holds-bool, holds-no-bool, holds-none-bool}
-use borrow.Author.Rules.{rules}
 use Rattle.prepared.proofs.OtherForms.{form-no-bool}
 use Rattle.evaluators.proofs.leaves.bool_variable.Goals as goal
 

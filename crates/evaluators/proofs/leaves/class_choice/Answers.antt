@@ -1,7 +1,6 @@
 -- Only a variable that holds a class has one to choose in.
 -- Assumes nothing.
 use Rattle.evaluators.proofs.ViewLaws.{class-out, class-held, class-none}
-use borrow.Author.Rules.{rules}
 use Rattle.prepared.proofs.OtherForms.{form-no-class}
 use Rattle.evaluators.proofs.leaves.class_choice.Goals as goal
 

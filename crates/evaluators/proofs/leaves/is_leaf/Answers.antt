@@ -1,7 +1,6 @@
 -- By the number and the kind.
 -- Assumes nothing.
 use Rattle.evaluators.proofs.NodeLaws.{leaf-past, leaf-is}
-use borrow.Author.Rules.{rules}
 use Rattle.evaluators.proofs.leaves.is_leaf.Goals as goal
 
 pub returns-then-user-node : goal.returns-then-user-node

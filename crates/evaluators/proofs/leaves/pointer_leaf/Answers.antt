@@ -2,7 +2,6 @@
 -- Assumes nothing.
 use mathlib.Core.Path.{refl}
 use Rattle.evaluators.proofs.NodeLaws.{not-below, pointer-variable, leaf-variable, no-pointer-leaf}
-use borrow.Author.Rules.{rules}
 use Rattle.evaluators.proofs.leaves.pointer_leaf.Goals as goal
 
 pub returns-then-user-node : goal.returns-then-user-node

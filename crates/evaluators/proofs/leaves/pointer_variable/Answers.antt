@@ -1,7 +1,6 @@
 -- By the form of the variable, and the arrays of the record.
 -- Assumes nothing.
 use Rattle.evaluators.proofs.ViewLaws.{pointer_out, holds-pointer, holds-lacking, holds-none-pointer}
-use borrow.Author.Rules.{rules}
 use Rattle.prepared.proofs.OtherForms.{form-no-pointer}
 use Rattle.evaluators.proofs.leaves.pointer_variable.Goals as goal
 

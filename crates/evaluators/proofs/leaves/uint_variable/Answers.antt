@@ -1,7 +1,6 @@
 -- By the form of the variable.
 -- Assumes nothing.
 use Rattle.evaluators.proofs.ViewLaws.{holds-out, holds-uint, holds-other, holds-no-uint, holds-none-uint}
-use borrow.Author.Rules.{rules}
 use Rattle.evaluators.proofs.leaves.uint_variable.Goals as goal
 
 pub returns-then-own-a : goal.returns-then-own-a

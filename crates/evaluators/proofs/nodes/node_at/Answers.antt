@@ -1,7 +1,6 @@
 -- The four words of the line, taken apart.
 -- Assumes nothing.
 use Rattle.evaluators.proofs.NodeLaws.{node-read}
-use borrow.Author.Rules.{rules}
 use Rattle.evaluators.proofs.nodes.node_at.Goals as goal
 
 pub returns : goal.returns

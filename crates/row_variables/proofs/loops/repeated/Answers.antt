@@ -58,4 +58,4 @@ returns-in_default-kind c a b k count stack bs fs ls hs cells =
     let m = columns g.here g.ns.now bs g.«open» g.loop_rows.now g.starts.now g.ends.now count fs ls hs in
     repeat-other g.own.now stack g.list.now m cells a b k g.at d e _
     c.next_start-x.ensures c.in-Uint.is c.row_word-kind.ensures
-    c.in_default-kind.rest.0.1 c.in_default-kind.rest.1
+    (search rules) (search rules)
