@@ -29,7 +29,6 @@ use Rattle.evaluators.specs.CodeAnswers.{failed, out_of, OfType, Answers, Says, 
 use Rattle.evaluators.specs.Reasons.{reason_of}
 use Rattle.evaluators.specs.CodeLeaves.{held_for, HoldsFor, load_of, arith, moved_by, valid_in, test_of}
 use Rattle.evaluators.proofs.AnswerLaws.{said-uint, said-not, failed-next, followed, branch, tested}
-use Rattle.evaluators.proofs.AnswerLaws as values
 use Rattle.evaluators.proofs.ViewLaws.{var-out}
 use Rattle.evaluators.specs.contracts.answers.Answer.{the_type as answer}
 use Rattle.evaluators.specs.declared.answers.Failure.{Failure}

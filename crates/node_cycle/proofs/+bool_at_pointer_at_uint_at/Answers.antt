@@ -14,21 +14,21 @@ bool_at-returns-then-user-node t c = search answers
 
 pub bool_at-returns-in_default-x : goal.bool_at-returns-in_default-x
 bool_at-returns-in_default-x t c = elim c.if-is_leaf.branch [
-      bool_at-then-is_leaf w ↦ search (answers, answer-no-uint _ c.in_default-x.not-Uint, is_same {l = c.args.list.now} (w.uint_leaf-x.ensures.leaf c.args.count c.args.bs.now c.args.fs.now c.args.ls.now c.args.hs.now c.args.cells.now c.args.list.now) (sym w.x-is))
-    | bool_at-else-is_leaf w ↦ search (answers, answer-no-uint _ c.in_default-x.not-Uint, is_same {l = c.args.list.now} w.uint_at-x.ensures (sym w.x-is))
-    ]
+  | bool_at-then-is_leaf w ↦ search (answers, answer-no-uint _ c.in_default-x.not-Uint, is_same {l = c.args.list.now} (w.uint_leaf-x.ensures.leaf c.args.count c.args.bs.now c.args.fs.now c.args.ls.now c.args.hs.now c.args.cells.now c.args.list.now) (sym w.x-is))
+  | bool_at-else-is_leaf w ↦ search (answers, answer-no-uint _ c.in_default-x.not-Uint, is_same {l = c.args.list.now} w.uint_at-x.ensures (sym w.x-is))
+]
 
 pub bool_at-returns-in_default-y : goal.bool_at-returns-in_default-y
 bool_at-returns-in_default-y t c = elim c.if-is_leaf.branch [
-      bool_at-then-is_leaf w1 ↦ elim c.if-is_leaf-2.branch [
-        bool_at-then-is_leaf-2 w2 ↦ search (answers, answer-no-uint _ c.in_default-y.not-Uint, is_same {l = c.args.list.now} (w1.uint_leaf-x.ensures.leaf c.args.count c.args.bs.now c.args.fs.now c.args.ls.now c.args.hs.now c.args.cells.now c.args.list.now) (sym w1.x-is), is_same {l = c.args.list.now} (w2.uint_leaf-y.ensures.leaf c.args.count c.args.bs.now c.args.fs.now c.args.ls.now c.args.hs.now c.args.cells.now c.args.list.now) (sym w2.y-is))
-      | bool_at-else-is_leaf-2 w2 ↦ search (answers, answer-no-uint _ c.in_default-y.not-Uint, is_same {l = c.args.list.now} (w1.uint_leaf-x.ensures.leaf c.args.count c.args.bs.now c.args.fs.now c.args.ls.now c.args.hs.now c.args.cells.now c.args.list.now) (sym w1.x-is), is_same {l = c.args.list.now} w2.uint_at-y.ensures (sym w2.y-is))
-      ]
-    | bool_at-else-is_leaf w1 ↦ elim c.if-is_leaf-2.branch [
-        bool_at-then-is_leaf-2 w2 ↦ search (answers, answer-no-uint _ c.in_default-y.not-Uint, is_same {l = c.args.list.now} w1.uint_at-x.ensures (sym w1.x-is), is_same {l = c.args.list.now} (w2.uint_leaf-y.ensures.leaf c.args.count c.args.bs.now c.args.fs.now c.args.ls.now c.args.hs.now c.args.cells.now c.args.list.now) (sym w2.y-is))
-      | bool_at-else-is_leaf-2 w2 ↦ search (answers, answer-no-uint _ c.in_default-y.not-Uint, is_same {l = c.args.list.now} w1.uint_at-x.ensures (sym w1.x-is), is_same {l = c.args.list.now} w2.uint_at-y.ensures (sym w2.y-is))
-      ]
-    ]
+  | bool_at-then-is_leaf w1 ↦ elim c.if-is_leaf-2.branch [
+    | bool_at-then-is_leaf-2 w2 ↦ search (answers, answer-no-uint _ c.in_default-y.not-Uint, is_same {l = c.args.list.now} (w1.uint_leaf-x.ensures.leaf c.args.count c.args.bs.now c.args.fs.now c.args.ls.now c.args.hs.now c.args.cells.now c.args.list.now) (sym w1.x-is), is_same {l = c.args.list.now} (w2.uint_leaf-y.ensures.leaf c.args.count c.args.bs.now c.args.fs.now c.args.ls.now c.args.hs.now c.args.cells.now c.args.list.now) (sym w2.y-is))
+    | bool_at-else-is_leaf-2 w2 ↦ search (answers, answer-no-uint _ c.in_default-y.not-Uint, is_same {l = c.args.list.now} (w1.uint_leaf-x.ensures.leaf c.args.count c.args.bs.now c.args.fs.now c.args.ls.now c.args.hs.now c.args.cells.now c.args.list.now) (sym w1.x-is), is_same {l = c.args.list.now} w2.uint_at-y.ensures (sym w2.y-is))
+  ]
+  | bool_at-else-is_leaf w1 ↦ elim c.if-is_leaf-2.branch [
+    | bool_at-then-is_leaf-2 w2 ↦ search (answers, answer-no-uint _ c.in_default-y.not-Uint, is_same {l = c.args.list.now} w1.uint_at-x.ensures (sym w1.x-is), is_same {l = c.args.list.now} (w2.uint_leaf-y.ensures.leaf c.args.count c.args.bs.now c.args.fs.now c.args.ls.now c.args.hs.now c.args.cells.now c.args.list.now) (sym w2.y-is))
+    | bool_at-else-is_leaf-2 w2 ↦ search (answers, answer-no-uint _ c.in_default-y.not-Uint, is_same {l = c.args.list.now} w1.uint_at-x.ensures (sym w1.x-is), is_same {l = c.args.list.now} w2.uint_at-y.ensures (sym w2.y-is))
+  ]
+]
 
 pub bool_at-returns-in_default-x-2 : goal.bool_at-returns-in_default-x-2
 bool_at-returns-in_default-x-2 t c = search (answers, answer-no-bool _ c.in_default-x-2.not-Bool)
@@ -38,9 +38,9 @@ bool_at-returns-in_default-y-2 t c = search (answers, answer-no-bool _ c.in_defa
 
 pub bool_at-returns-in_default-x-3 : goal.bool_at-returns-in_default-x-3
 bool_at-returns-in_default-x-3 t c = elim c.if-is_leaf-3.branch [
-      bool_at-then-is_leaf-3 w ↦ search (answers, answer-no-pointer _ c.in_default-x-3.not-Pointer, is_same {l = c.args.list.now} (w.pointer_leaf-x.ensures.leaf c.args.fs.now c.args.ls.now c.args.hs.now c.args.cells.now c.args.list.now) (sym w.x-is))
-    | bool_at-else-is_leaf-3 w ↦ search (answers, answer-no-pointer _ c.in_default-x-3.not-Pointer, is_same {l = c.args.list.now} w.pointer_at-x.ensures (sym w.x-is))
-    ]
+  | bool_at-then-is_leaf-3 w ↦ search (answers, answer-no-pointer _ c.in_default-x-3.not-Pointer, is_same {l = c.args.list.now} (w.pointer_leaf-x.ensures.leaf c.args.fs.now c.args.ls.now c.args.hs.now c.args.cells.now c.args.list.now) (sym w.x-is))
+  | bool_at-else-is_leaf-3 w ↦ search (answers, answer-no-pointer _ c.in_default-x-3.not-Pointer, is_same {l = c.args.list.now} w.pointer_at-x.ensures (sym w.x-is))
+]
 
 pub bool_at-returns-in-Variable : goal.bool_at-returns-in-Variable
 bool_at-returns-in-Variable t c = search answers
@@ -50,24 +50,24 @@ bool_at-returns-in-Flag t c = search answers
 
 pub bool_at-returns-in-Uint-y : goal.bool_at-returns-in-Uint-y
 bool_at-returns-in-Uint-y t c = elim c.if-is_leaf.branch [
-      bool_at-then-is_leaf w1 ↦ elim c.if-is_leaf-2.branch [
-        bool_at-then-is_leaf-2 w2 ↦ search (answers, is_same {l = c.args.list.now} (w1.uint_leaf-x.ensures.leaf c.args.count c.args.bs.now c.args.fs.now c.args.ls.now c.args.hs.now c.args.cells.now c.args.list.now) (sym w1.x-is), is_same {l = c.args.list.now} (w2.uint_leaf-y.ensures.leaf c.args.count c.args.bs.now c.args.fs.now c.args.ls.now c.args.hs.now c.args.cells.now c.args.list.now) (sym w2.y-is))
-      | bool_at-else-is_leaf-2 w2 ↦ search (answers, is_same {l = c.args.list.now} (w1.uint_leaf-x.ensures.leaf c.args.count c.args.bs.now c.args.fs.now c.args.ls.now c.args.hs.now c.args.cells.now c.args.list.now) (sym w1.x-is), is_same {l = c.args.list.now} w2.uint_at-y.ensures (sym w2.y-is))
-      ]
-    | bool_at-else-is_leaf w1 ↦ elim c.if-is_leaf-2.branch [
-        bool_at-then-is_leaf-2 w2 ↦ search (answers, is_same {l = c.args.list.now} w1.uint_at-x.ensures (sym w1.x-is), is_same {l = c.args.list.now} (w2.uint_leaf-y.ensures.leaf c.args.count c.args.bs.now c.args.fs.now c.args.ls.now c.args.hs.now c.args.cells.now c.args.list.now) (sym w2.y-is))
-      | bool_at-else-is_leaf-2 w2 ↦ search (answers, is_same {l = c.args.list.now} w1.uint_at-x.ensures (sym w1.x-is), is_same {l = c.args.list.now} w2.uint_at-y.ensures (sym w2.y-is))
-      ]
-    ]
+  | bool_at-then-is_leaf w1 ↦ elim c.if-is_leaf-2.branch [
+    | bool_at-then-is_leaf-2 w2 ↦ search (answers, is_same {l = c.args.list.now} (w1.uint_leaf-x.ensures.leaf c.args.count c.args.bs.now c.args.fs.now c.args.ls.now c.args.hs.now c.args.cells.now c.args.list.now) (sym w1.x-is), is_same {l = c.args.list.now} (w2.uint_leaf-y.ensures.leaf c.args.count c.args.bs.now c.args.fs.now c.args.ls.now c.args.hs.now c.args.cells.now c.args.list.now) (sym w2.y-is))
+    | bool_at-else-is_leaf-2 w2 ↦ search (answers, is_same {l = c.args.list.now} (w1.uint_leaf-x.ensures.leaf c.args.count c.args.bs.now c.args.fs.now c.args.ls.now c.args.hs.now c.args.cells.now c.args.list.now) (sym w1.x-is), is_same {l = c.args.list.now} w2.uint_at-y.ensures (sym w2.y-is))
+  ]
+  | bool_at-else-is_leaf w1 ↦ elim c.if-is_leaf-2.branch [
+    | bool_at-then-is_leaf-2 w2 ↦ search (answers, is_same {l = c.args.list.now} w1.uint_at-x.ensures (sym w1.x-is), is_same {l = c.args.list.now} (w2.uint_leaf-y.ensures.leaf c.args.count c.args.bs.now c.args.fs.now c.args.ls.now c.args.hs.now c.args.cells.now c.args.list.now) (sym w2.y-is))
+    | bool_at-else-is_leaf-2 w2 ↦ search (answers, is_same {l = c.args.list.now} w1.uint_at-x.ensures (sym w1.x-is), is_same {l = c.args.list.now} w2.uint_at-y.ensures (sym w2.y-is))
+  ]
+]
 
 pub bool_at-returns-in-Bool-y : goal.bool_at-returns-in-Bool-y
 bool_at-returns-in-Bool-y t c = search answers
 
 pub bool_at-returns-in-Pointer : goal.bool_at-returns-in-Pointer
 bool_at-returns-in-Pointer t c = elim c.if-is_leaf-3.branch [
-      bool_at-then-is_leaf-3 w ↦ search (answers, is_same {l = c.args.list.now} (w.pointer_leaf-x.ensures.leaf c.args.fs.now c.args.ls.now c.args.hs.now c.args.cells.now c.args.list.now) (sym w.x-is))
-    | bool_at-else-is_leaf-3 w ↦ search (answers, is_same {l = c.args.list.now} w.pointer_at-x.ensures (sym w.x-is))
-    ]
+  | bool_at-then-is_leaf-3 w ↦ search (answers, is_same {l = c.args.list.now} (w.pointer_leaf-x.ensures.leaf c.args.fs.now c.args.ls.now c.args.hs.now c.args.cells.now c.args.list.now) (sym w.x-is))
+  | bool_at-else-is_leaf-3 w ↦ search (answers, is_same {l = c.args.list.now} w.pointer_at-x.ensures (sym w.x-is))
+]
 
 pub bool_at-returns-in_default : goal.bool_at-returns-in_default
 bool_at-returns-in_default t c = search (answers, node-no-bool _ c.in_default.not-Variable c.in_default.not-Flag c.in_default.not-Compare c.in_default.not-If c.in_default.not-Valid)
@@ -77,51 +77,51 @@ pointer_at-returns-then-user-node t c = search answers
 
 pub pointer_at-returns-in_default-x : goal.pointer_at-returns-in_default-x
 pointer_at-returns-in_default-x t c = elim c.if-is_leaf.branch [
-      pointer_at-then-is_leaf w ↦ search (answers, answer-no-pointer _ c.in_default-x.not-Pointer, is_same {l = c.args.list.now} (w.pointer_leaf-x.ensures.leaf c.args.fs.now c.args.ls.now c.args.hs.now c.args.cells.now c.args.list.now) (sym w.x-is))
-    | pointer_at-else-is_leaf w ↦ search (answers, answer-no-pointer _ c.in_default-x.not-Pointer, is_same {l = c.args.list.now} w.pointer_at-x.ensures (sym w.x-is))
-    ]
+  | pointer_at-then-is_leaf w ↦ search (answers, answer-no-pointer _ c.in_default-x.not-Pointer, is_same {l = c.args.list.now} (w.pointer_leaf-x.ensures.leaf c.args.fs.now c.args.ls.now c.args.hs.now c.args.cells.now c.args.list.now) (sym w.x-is))
+  | pointer_at-else-is_leaf w ↦ search (answers, answer-no-pointer _ c.in_default-x.not-Pointer, is_same {l = c.args.list.now} w.pointer_at-x.ensures (sym w.x-is))
+]
 
 pub pointer_at-returns-in_default-y : goal.pointer_at-returns-in_default-y
 pointer_at-returns-in_default-y t c = elim c.if-is_leaf.branch [
-      pointer_at-then-is_leaf w1 ↦ elim c.if-is_leaf-2.branch [
-        pointer_at-then-is_leaf-2 w2 ↦ search (answers, answer-no-uint _ c.in_default-y.not-Uint, is_same {l = c.args.list.now} (w1.pointer_leaf-x.ensures.leaf c.args.fs.now c.args.ls.now c.args.hs.now c.args.cells.now c.args.list.now) (sym w1.x-is), is_same {l = c.args.list.now} (w2.uint_leaf-y.ensures.leaf c.args.count c.args.bs.now c.args.fs.now c.args.ls.now c.args.hs.now c.args.cells.now c.args.list.now) (sym w2.y-is))
-      | pointer_at-else-is_leaf-2 w2 ↦ search (answers, answer-no-uint _ c.in_default-y.not-Uint, is_same {l = c.args.list.now} (w1.pointer_leaf-x.ensures.leaf c.args.fs.now c.args.ls.now c.args.hs.now c.args.cells.now c.args.list.now) (sym w1.x-is), is_same {l = c.args.list.now} w2.uint_at-y.ensures (sym w2.y-is))
-      ]
-    | pointer_at-else-is_leaf w1 ↦ elim c.if-is_leaf-2.branch [
-        pointer_at-then-is_leaf-2 w2 ↦ search (answers, answer-no-uint _ c.in_default-y.not-Uint, is_same {l = c.args.list.now} w1.pointer_at-x.ensures (sym w1.x-is), is_same {l = c.args.list.now} (w2.uint_leaf-y.ensures.leaf c.args.count c.args.bs.now c.args.fs.now c.args.ls.now c.args.hs.now c.args.cells.now c.args.list.now) (sym w2.y-is))
-      | pointer_at-else-is_leaf-2 w2 ↦ search (answers, answer-no-uint _ c.in_default-y.not-Uint, is_same {l = c.args.list.now} w1.pointer_at-x.ensures (sym w1.x-is), is_same {l = c.args.list.now} w2.uint_at-y.ensures (sym w2.y-is))
-      ]
-    ]
+  | pointer_at-then-is_leaf w1 ↦ elim c.if-is_leaf-2.branch [
+    | pointer_at-then-is_leaf-2 w2 ↦ search (answers, answer-no-uint _ c.in_default-y.not-Uint, is_same {l = c.args.list.now} (w1.pointer_leaf-x.ensures.leaf c.args.fs.now c.args.ls.now c.args.hs.now c.args.cells.now c.args.list.now) (sym w1.x-is), is_same {l = c.args.list.now} (w2.uint_leaf-y.ensures.leaf c.args.count c.args.bs.now c.args.fs.now c.args.ls.now c.args.hs.now c.args.cells.now c.args.list.now) (sym w2.y-is))
+    | pointer_at-else-is_leaf-2 w2 ↦ search (answers, answer-no-uint _ c.in_default-y.not-Uint, is_same {l = c.args.list.now} (w1.pointer_leaf-x.ensures.leaf c.args.fs.now c.args.ls.now c.args.hs.now c.args.cells.now c.args.list.now) (sym w1.x-is), is_same {l = c.args.list.now} w2.uint_at-y.ensures (sym w2.y-is))
+  ]
+  | pointer_at-else-is_leaf w1 ↦ elim c.if-is_leaf-2.branch [
+    | pointer_at-then-is_leaf-2 w2 ↦ search (answers, answer-no-uint _ c.in_default-y.not-Uint, is_same {l = c.args.list.now} w1.pointer_at-x.ensures (sym w1.x-is), is_same {l = c.args.list.now} (w2.uint_leaf-y.ensures.leaf c.args.count c.args.bs.now c.args.fs.now c.args.ls.now c.args.hs.now c.args.cells.now c.args.list.now) (sym w2.y-is))
+    | pointer_at-else-is_leaf-2 w2 ↦ search (answers, answer-no-uint _ c.in_default-y.not-Uint, is_same {l = c.args.list.now} w1.pointer_at-x.ensures (sym w1.x-is), is_same {l = c.args.list.now} w2.uint_at-y.ensures (sym w2.y-is))
+  ]
+]
 
 pub pointer_at-returns-in_default-x-2 : goal.pointer_at-returns-in_default-x-2
 pointer_at-returns-in_default-x-2 t c = search (answers, answer-no-bool _ c.in_default-x-2.not-Bool)
 
 pub pointer_at-returns-in_default-y-2 : goal.pointer_at-returns-in_default-y-2
 pointer_at-returns-in_default-y-2 t c = elim c.if-is_leaf-3.branch [
-      pointer_at-then-is_leaf-3 w ↦ search (answers, answer-no-pointer _ c.in_default-y-2.not-Pointer, is_same {l = c.args.list.now} (w.pointer_leaf-y.ensures.leaf c.args.fs.now c.args.ls.now c.args.hs.now c.args.cells.now c.args.list.now) (sym w.y-is))
-    | pointer_at-else-is_leaf-3 w ↦ search (answers, answer-no-pointer _ c.in_default-y-2.not-Pointer, is_same {l = c.args.list.now} w.pointer_at-y.ensures (sym w.y-is))
-    ]
+  | pointer_at-then-is_leaf-3 w ↦ search (answers, answer-no-pointer _ c.in_default-y-2.not-Pointer, is_same {l = c.args.list.now} (w.pointer_leaf-y.ensures.leaf c.args.fs.now c.args.ls.now c.args.hs.now c.args.cells.now c.args.list.now) (sym w.y-is))
+  | pointer_at-else-is_leaf-3 w ↦ search (answers, answer-no-pointer _ c.in_default-y-2.not-Pointer, is_same {l = c.args.list.now} w.pointer_at-y.ensures (sym w.y-is))
+]
 
 pub pointer_at-returns-in-Variable : goal.pointer_at-returns-in-Variable
 pointer_at-returns-in-Variable t c = search answers
 
 pub pointer_at-returns-in-Uint : goal.pointer_at-returns-in-Uint
 pointer_at-returns-in-Uint t c = elim c.if-is_leaf.branch [
-      pointer_at-then-is_leaf w1 ↦ elim c.if-is_leaf-2.branch [
-        pointer_at-then-is_leaf-2 w2 ↦ search (answers, is_same {l = c.args.list.now} (w1.pointer_leaf-x.ensures.leaf c.args.fs.now c.args.ls.now c.args.hs.now c.args.cells.now c.args.list.now) (sym w1.x-is), is_same {l = c.args.list.now} (w2.uint_leaf-y.ensures.leaf c.args.count c.args.bs.now c.args.fs.now c.args.ls.now c.args.hs.now c.args.cells.now c.args.list.now) (sym w2.y-is))
-      | pointer_at-else-is_leaf-2 w2 ↦ search (answers, is_same {l = c.args.list.now} (w1.pointer_leaf-x.ensures.leaf c.args.fs.now c.args.ls.now c.args.hs.now c.args.cells.now c.args.list.now) (sym w1.x-is), is_same {l = c.args.list.now} w2.uint_at-y.ensures (sym w2.y-is))
-      ]
-    | pointer_at-else-is_leaf w1 ↦ elim c.if-is_leaf-2.branch [
-        pointer_at-then-is_leaf-2 w2 ↦ search (answers, is_same {l = c.args.list.now} w1.pointer_at-x.ensures (sym w1.x-is), is_same {l = c.args.list.now} (w2.uint_leaf-y.ensures.leaf c.args.count c.args.bs.now c.args.fs.now c.args.ls.now c.args.hs.now c.args.cells.now c.args.list.now) (sym w2.y-is))
-      | pointer_at-else-is_leaf-2 w2 ↦ search (answers, is_same {l = c.args.list.now} w1.pointer_at-x.ensures (sym w1.x-is), is_same {l = c.args.list.now} w2.uint_at-y.ensures (sym w2.y-is))
-      ]
-    ]
+  | pointer_at-then-is_leaf w1 ↦ elim c.if-is_leaf-2.branch [
+    | pointer_at-then-is_leaf-2 w2 ↦ search (answers, is_same {l = c.args.list.now} (w1.pointer_leaf-x.ensures.leaf c.args.fs.now c.args.ls.now c.args.hs.now c.args.cells.now c.args.list.now) (sym w1.x-is), is_same {l = c.args.list.now} (w2.uint_leaf-y.ensures.leaf c.args.count c.args.bs.now c.args.fs.now c.args.ls.now c.args.hs.now c.args.cells.now c.args.list.now) (sym w2.y-is))
+    | pointer_at-else-is_leaf-2 w2 ↦ search (answers, is_same {l = c.args.list.now} (w1.pointer_leaf-x.ensures.leaf c.args.fs.now c.args.ls.now c.args.hs.now c.args.cells.now c.args.list.now) (sym w1.x-is), is_same {l = c.args.list.now} w2.uint_at-y.ensures (sym w2.y-is))
+  ]
+  | pointer_at-else-is_leaf w1 ↦ elim c.if-is_leaf-2.branch [
+    | pointer_at-then-is_leaf-2 w2 ↦ search (answers, is_same {l = c.args.list.now} w1.pointer_at-x.ensures (sym w1.x-is), is_same {l = c.args.list.now} (w2.uint_leaf-y.ensures.leaf c.args.count c.args.bs.now c.args.fs.now c.args.ls.now c.args.hs.now c.args.cells.now c.args.list.now) (sym w2.y-is))
+    | pointer_at-else-is_leaf-2 w2 ↦ search (answers, is_same {l = c.args.list.now} w1.pointer_at-x.ensures (sym w1.x-is), is_same {l = c.args.list.now} w2.uint_at-y.ensures (sym w2.y-is))
+  ]
+]
 
 pub pointer_at-returns-in-Pointer-y : goal.pointer_at-returns-in-Pointer-y
 pointer_at-returns-in-Pointer-y t c = elim c.if-is_leaf-3.branch [
-      pointer_at-then-is_leaf-3 w ↦ search (answers, is_same {l = c.args.list.now} (w.pointer_leaf-y.ensures.leaf c.args.fs.now c.args.ls.now c.args.hs.now c.args.cells.now c.args.list.now) (sym w.y-is))
-    | pointer_at-else-is_leaf-3 w ↦ search (answers, is_same {l = c.args.list.now} w.pointer_at-y.ensures (sym w.y-is))
-    ]
+  | pointer_at-then-is_leaf-3 w ↦ search (answers, is_same {l = c.args.list.now} (w.pointer_leaf-y.ensures.leaf c.args.fs.now c.args.ls.now c.args.hs.now c.args.cells.now c.args.list.now) (sym w.y-is))
+  | pointer_at-else-is_leaf-3 w ↦ search (answers, is_same {l = c.args.list.now} w.pointer_at-y.ensures (sym w.y-is))
+]
 
 pub pointer_at-returns-in_default : goal.pointer_at-returns-in_default
 pointer_at-returns-in_default t c = search (answers, node-no-pointer _ c.in_default.not-Variable c.in_default.not-Arith c.in_default.not-If)
@@ -131,36 +131,36 @@ uint_at-returns-then-user-node t c = search answers
 
 pub uint_at-returns-in_default-x : goal.uint_at-returns-in_default-x
 uint_at-returns-in_default-x t c = elim c.if-is_leaf.branch [
-      uint_at-then-is_leaf w ↦ search (answers, answer-no-pointer _ c.in_default-x.not-Pointer, is_same {l = c.args.list.now} (w.pointer_leaf-x.ensures.leaf c.args.fs.now c.args.ls.now c.args.hs.now c.args.cells.now c.args.list.now) (sym w.x-is))
-    | uint_at-else-is_leaf w ↦ search (answers, answer-no-pointer _ c.in_default-x.not-Pointer, is_same {l = c.args.list.now} w.pointer_at-x.ensures (sym w.x-is))
-    ]
+  | uint_at-then-is_leaf w ↦ search (answers, answer-no-pointer _ c.in_default-x.not-Pointer, is_same {l = c.args.list.now} (w.pointer_leaf-x.ensures.leaf c.args.fs.now c.args.ls.now c.args.hs.now c.args.cells.now c.args.list.now) (sym w.x-is))
+  | uint_at-else-is_leaf w ↦ search (answers, answer-no-pointer _ c.in_default-x.not-Pointer, is_same {l = c.args.list.now} w.pointer_at-x.ensures (sym w.x-is))
+]
 
 pub uint_at-returns-in_default-x-2 : goal.uint_at-returns-in_default-x-2
 uint_at-returns-in_default-x-2 t c = elim c.if-is_leaf-2.branch [
-      uint_at-then-is_leaf-2 w ↦ search (answers, answer-no-uint _ c.in_default-x-2.not-Uint, is_same {l = c.args.list.now} (w.uint_leaf-x.ensures.leaf c.args.count c.args.bs.now c.args.fs.now c.args.ls.now c.args.hs.now c.args.cells.now c.args.list.now) (sym w.x-is))
-    | uint_at-else-is_leaf-2 w ↦ search (answers, answer-no-uint _ c.in_default-x-2.not-Uint, is_same {l = c.args.list.now} w.uint_at-x.ensures (sym w.x-is))
-    ]
+  | uint_at-then-is_leaf-2 w ↦ search (answers, answer-no-uint _ c.in_default-x-2.not-Uint, is_same {l = c.args.list.now} (w.uint_leaf-x.ensures.leaf c.args.count c.args.bs.now c.args.fs.now c.args.ls.now c.args.hs.now c.args.cells.now c.args.list.now) (sym w.x-is))
+  | uint_at-else-is_leaf-2 w ↦ search (answers, answer-no-uint _ c.in_default-x-2.not-Uint, is_same {l = c.args.list.now} w.uint_at-x.ensures (sym w.x-is))
+]
 
 pub uint_at-returns-in_default-y : goal.uint_at-returns-in_default-y
 uint_at-returns-in_default-y t c = elim c.if-is_leaf-2.branch [
-      uint_at-then-is_leaf-2 w1 ↦ elim c.if-is_leaf-3.branch [
-        uint_at-then-is_leaf-3 w2 ↦ search (answers, answer-no-uint _ c.in_default-y.not-Uint, is_same {l = c.args.list.now} (w1.uint_leaf-x.ensures.leaf c.args.count c.args.bs.now c.args.fs.now c.args.ls.now c.args.hs.now c.args.cells.now c.args.list.now) (sym w1.x-is), is_same {l = c.args.list.now} (w2.uint_leaf-y.ensures.leaf c.args.count c.args.bs.now c.args.fs.now c.args.ls.now c.args.hs.now c.args.cells.now c.args.list.now) (sym w2.y-is))
-      | uint_at-else-is_leaf-3 w2 ↦ search (answers, answer-no-uint _ c.in_default-y.not-Uint, is_same {l = c.args.list.now} (w1.uint_leaf-x.ensures.leaf c.args.count c.args.bs.now c.args.fs.now c.args.ls.now c.args.hs.now c.args.cells.now c.args.list.now) (sym w1.x-is), is_same {l = c.args.list.now} w2.uint_at-y.ensures (sym w2.y-is))
-      ]
-    | uint_at-else-is_leaf-2 w1 ↦ elim c.if-is_leaf-3.branch [
-        uint_at-then-is_leaf-3 w2 ↦ search (answers, answer-no-uint _ c.in_default-y.not-Uint, is_same {l = c.args.list.now} w1.uint_at-x.ensures (sym w1.x-is), is_same {l = c.args.list.now} (w2.uint_leaf-y.ensures.leaf c.args.count c.args.bs.now c.args.fs.now c.args.ls.now c.args.hs.now c.args.cells.now c.args.list.now) (sym w2.y-is))
-      | uint_at-else-is_leaf-3 w2 ↦ search (answers, answer-no-uint _ c.in_default-y.not-Uint, is_same {l = c.args.list.now} w1.uint_at-x.ensures (sym w1.x-is), is_same {l = c.args.list.now} w2.uint_at-y.ensures (sym w2.y-is))
-      ]
-    ]
+  | uint_at-then-is_leaf-2 w1 ↦ elim c.if-is_leaf-3.branch [
+    | uint_at-then-is_leaf-3 w2 ↦ search (answers, answer-no-uint _ c.in_default-y.not-Uint, is_same {l = c.args.list.now} (w1.uint_leaf-x.ensures.leaf c.args.count c.args.bs.now c.args.fs.now c.args.ls.now c.args.hs.now c.args.cells.now c.args.list.now) (sym w1.x-is), is_same {l = c.args.list.now} (w2.uint_leaf-y.ensures.leaf c.args.count c.args.bs.now c.args.fs.now c.args.ls.now c.args.hs.now c.args.cells.now c.args.list.now) (sym w2.y-is))
+    | uint_at-else-is_leaf-3 w2 ↦ search (answers, answer-no-uint _ c.in_default-y.not-Uint, is_same {l = c.args.list.now} (w1.uint_leaf-x.ensures.leaf c.args.count c.args.bs.now c.args.fs.now c.args.ls.now c.args.hs.now c.args.cells.now c.args.list.now) (sym w1.x-is), is_same {l = c.args.list.now} w2.uint_at-y.ensures (sym w2.y-is))
+  ]
+  | uint_at-else-is_leaf-2 w1 ↦ elim c.if-is_leaf-3.branch [
+    | uint_at-then-is_leaf-3 w2 ↦ search (answers, answer-no-uint _ c.in_default-y.not-Uint, is_same {l = c.args.list.now} w1.uint_at-x.ensures (sym w1.x-is), is_same {l = c.args.list.now} (w2.uint_leaf-y.ensures.leaf c.args.count c.args.bs.now c.args.fs.now c.args.ls.now c.args.hs.now c.args.cells.now c.args.list.now) (sym w2.y-is))
+    | uint_at-else-is_leaf-3 w2 ↦ search (answers, answer-no-uint _ c.in_default-y.not-Uint, is_same {l = c.args.list.now} w1.uint_at-x.ensures (sym w1.x-is), is_same {l = c.args.list.now} w2.uint_at-y.ensures (sym w2.y-is))
+  ]
+]
 
 pub uint_at-returns-in_default-x-3 : goal.uint_at-returns-in_default-x-3
 uint_at-returns-in_default-x-3 t c = search (answers, answer-no-bool _ c.in_default-x-3.not-Bool)
 
 pub uint_at-returns-in_default-y-2 : goal.uint_at-returns-in_default-y-2
 uint_at-returns-in_default-y-2 t c = elim c.if-is_leaf-4.branch [
-      uint_at-then-is_leaf-4 w ↦ search (answers, answer-no-uint _ c.in_default-y-2.not-Uint, is_same {l = c.args.list.now} (w.uint_leaf-y-then-is_leaf-4.ensures.leaf c.args.count c.args.bs.now c.args.fs.now c.args.ls.now c.args.hs.now c.args.cells.now c.args.list.now) (sym w.y-is))
-    | uint_at-else-is_leaf-4 w ↦ search (answers, answer-no-uint _ c.in_default-y-2.not-Uint, is_same {l = c.args.list.now} w.uint_at-y-else-is_leaf-4.ensures (sym w.y-is))
-    ]
+  | uint_at-then-is_leaf-4 w ↦ search (answers, answer-no-uint _ c.in_default-y-2.not-Uint, is_same {l = c.args.list.now} (w.uint_leaf-y-then-is_leaf-4.ensures.leaf c.args.count c.args.bs.now c.args.fs.now c.args.ls.now c.args.hs.now c.args.cells.now c.args.list.now) (sym w.y-is))
+  | uint_at-else-is_leaf-4 w ↦ search (answers, answer-no-uint _ c.in_default-y-2.not-Uint, is_same {l = c.args.list.now} w.uint_at-y-else-is_leaf-4.ensures (sym w.y-is))
+]
 
 pub uint_at-returns-in-Variable : goal.uint_at-returns-in-Variable
 uint_at-returns-in-Variable t c = search answers
@@ -170,27 +170,27 @@ uint_at-returns-in-Constant t c = search answers
 
 pub uint_at-returns-in-Pointer : goal.uint_at-returns-in-Pointer
 uint_at-returns-in-Pointer t c = elim c.if-is_leaf.branch [
-      uint_at-then-is_leaf w ↦ search (answers, is_same {l = c.args.list.now} (w.pointer_leaf-x.ensures.leaf c.args.fs.now c.args.ls.now c.args.hs.now c.args.cells.now c.args.list.now) (sym w.x-is))
-    | uint_at-else-is_leaf w ↦ search (answers, is_same {l = c.args.list.now} w.pointer_at-x.ensures (sym w.x-is))
-    ]
+  | uint_at-then-is_leaf w ↦ search (answers, is_same {l = c.args.list.now} (w.pointer_leaf-x.ensures.leaf c.args.fs.now c.args.ls.now c.args.hs.now c.args.cells.now c.args.list.now) (sym w.x-is))
+  | uint_at-else-is_leaf w ↦ search (answers, is_same {l = c.args.list.now} w.pointer_at-x.ensures (sym w.x-is))
+]
 
 pub uint_at-returns-in-Uint-y : goal.uint_at-returns-in-Uint-y
 uint_at-returns-in-Uint-y t c = elim c.if-is_leaf-2.branch [
-      uint_at-then-is_leaf-2 w1 ↦ elim c.if-is_leaf-3.branch [
-        uint_at-then-is_leaf-3 w2 ↦ search (answers, is_same {l = c.args.list.now} (w1.uint_leaf-x.ensures.leaf c.args.count c.args.bs.now c.args.fs.now c.args.ls.now c.args.hs.now c.args.cells.now c.args.list.now) (sym w1.x-is), is_same {l = c.args.list.now} (w2.uint_leaf-y.ensures.leaf c.args.count c.args.bs.now c.args.fs.now c.args.ls.now c.args.hs.now c.args.cells.now c.args.list.now) (sym w2.y-is))
-      | uint_at-else-is_leaf-3 w2 ↦ search (answers, is_same {l = c.args.list.now} (w1.uint_leaf-x.ensures.leaf c.args.count c.args.bs.now c.args.fs.now c.args.ls.now c.args.hs.now c.args.cells.now c.args.list.now) (sym w1.x-is), is_same {l = c.args.list.now} w2.uint_at-y.ensures (sym w2.y-is))
-      ]
-    | uint_at-else-is_leaf-2 w1 ↦ elim c.if-is_leaf-3.branch [
-        uint_at-then-is_leaf-3 w2 ↦ search (answers, is_same {l = c.args.list.now} w1.uint_at-x.ensures (sym w1.x-is), is_same {l = c.args.list.now} (w2.uint_leaf-y.ensures.leaf c.args.count c.args.bs.now c.args.fs.now c.args.ls.now c.args.hs.now c.args.cells.now c.args.list.now) (sym w2.y-is))
-      | uint_at-else-is_leaf-3 w2 ↦ search (answers, is_same {l = c.args.list.now} w1.uint_at-x.ensures (sym w1.x-is), is_same {l = c.args.list.now} w2.uint_at-y.ensures (sym w2.y-is))
-      ]
-    ]
+  | uint_at-then-is_leaf-2 w1 ↦ elim c.if-is_leaf-3.branch [
+    | uint_at-then-is_leaf-3 w2 ↦ search (answers, is_same {l = c.args.list.now} (w1.uint_leaf-x.ensures.leaf c.args.count c.args.bs.now c.args.fs.now c.args.ls.now c.args.hs.now c.args.cells.now c.args.list.now) (sym w1.x-is), is_same {l = c.args.list.now} (w2.uint_leaf-y.ensures.leaf c.args.count c.args.bs.now c.args.fs.now c.args.ls.now c.args.hs.now c.args.cells.now c.args.list.now) (sym w2.y-is))
+    | uint_at-else-is_leaf-3 w2 ↦ search (answers, is_same {l = c.args.list.now} (w1.uint_leaf-x.ensures.leaf c.args.count c.args.bs.now c.args.fs.now c.args.ls.now c.args.hs.now c.args.cells.now c.args.list.now) (sym w1.x-is), is_same {l = c.args.list.now} w2.uint_at-y.ensures (sym w2.y-is))
+  ]
+  | uint_at-else-is_leaf-2 w1 ↦ elim c.if-is_leaf-3.branch [
+    | uint_at-then-is_leaf-3 w2 ↦ search (answers, is_same {l = c.args.list.now} w1.uint_at-x.ensures (sym w1.x-is), is_same {l = c.args.list.now} (w2.uint_leaf-y.ensures.leaf c.args.count c.args.bs.now c.args.fs.now c.args.ls.now c.args.hs.now c.args.cells.now c.args.list.now) (sym w2.y-is))
+    | uint_at-else-is_leaf-3 w2 ↦ search (answers, is_same {l = c.args.list.now} w1.uint_at-x.ensures (sym w1.x-is), is_same {l = c.args.list.now} w2.uint_at-y.ensures (sym w2.y-is))
+  ]
+]
 
 pub uint_at-returns-in-Uint-y-2 : goal.uint_at-returns-in-Uint-y-2
 uint_at-returns-in-Uint-y-2 t c = elim c.if-is_leaf-4.branch [
-      uint_at-then-is_leaf-4 w ↦ search (answers, is_same {l = c.args.list.now} (w.uint_leaf-y-then-is_leaf-4.ensures.leaf c.args.count c.args.bs.now c.args.fs.now c.args.ls.now c.args.hs.now c.args.cells.now c.args.list.now) (sym w.y-is))
-    | uint_at-else-is_leaf-4 w ↦ search (answers, is_same {l = c.args.list.now} w.uint_at-y-else-is_leaf-4.ensures (sym w.y-is))
-    ]
+  | uint_at-then-is_leaf-4 w ↦ search (answers, is_same {l = c.args.list.now} (w.uint_leaf-y-then-is_leaf-4.ensures.leaf c.args.count c.args.bs.now c.args.fs.now c.args.ls.now c.args.hs.now c.args.cells.now c.args.list.now) (sym w.y-is))
+  | uint_at-else-is_leaf-4 w ↦ search (answers, is_same {l = c.args.list.now} w.uint_at-y-else-is_leaf-4.ensures (sym w.y-is))
+]
 
 pub uint_at-returns-in-InClass : goal.uint_at-returns-in-InClass
 uint_at-returns-in-InClass t c = search answers

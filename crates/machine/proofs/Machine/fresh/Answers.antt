@@ -1,11 +1,9 @@
 -- Each variable below i has its first number, and the others are 0.
 -- Assumes nothing.
-use Prim.Native.Nat.{◌≤◌, ◌-◌}
 use native.Mathlib.Omega.{arith}
 use mathlib.Core.Path.{◌≡◌, refl}
-use Rattle.lists.specs.Tab.{tab}
 use Rattle.machine.specs.CodeFresh.{fresh_machine}
-use Rattle.machine.proofs.FreshLaws.{started_to, started_none, started-more}
+use Rattle.machine.proofs.FreshLaws.{started_none, started-more}
 use borrow.Author.Rules.{rules}
 use Rattle.machine.proofs.Machine.fresh.Goals as goal
 

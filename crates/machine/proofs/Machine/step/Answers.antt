@@ -1,9 +1,7 @@
 -- By the change, whose bounds are what the step of each asks.
 -- Assumes nothing.
-use mathlib.Core.Path.{refl}
 use Rattle.machine.specs.CodeMoves.{state_after}
 use Rattle.machine.proofs.StateLaws.{called-state, returned-state}
-use borrow.Author.Rules.{rules}
 use Rattle.machine.proofs.Machine.step.Goals as goal
 
 pub returns-in-Goes : goal.returns-in-Goes

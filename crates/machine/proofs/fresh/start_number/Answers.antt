@@ -2,7 +2,6 @@
 -- Assumes nothing.
 use mathlib.Core.Path.{sym, ◌∙◌}
 use Rattle.machine.proofs.FreshLaws.{start-class, start-other}
-use borrow.Author.Rules.{rules}
 use Rattle.prepared.proofs.OtherForms.{form-no-class}
 use Rattle.machine.proofs.fresh.start_number.Goals as goal
 

@@ -2,7 +2,6 @@
 -- Assumes nothing.
 use mathlib.Core.Path.{◌∙◌}
 use Rattle.recording.proofs.LoopNumberLaws.{bounds-marked, bounds-unmarked}
-use borrow.Author.Rules.{rules}
 use Rattle.recording.proofs.bounds.record_bounds.Goals as goal
 
 pub returns-then-marked_uint : goal.returns-then-marked_uint

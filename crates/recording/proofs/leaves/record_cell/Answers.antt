@@ -1,7 +1,6 @@
 -- By what the load came to, how the array is held, and the place.
 -- Assumes nothing.
 use Rattle.recording.proofs.RecordLaws.{cell-none, cell-kept, cell-pushed, cell_free}
-use borrow.Author.Rules.{rules}
 use Rattle.evaluators.proofs.OtherAnswers.{answer-no-uint}
 use Rattle.recording.proofs.leaves.record_cell.Goals as goal
 

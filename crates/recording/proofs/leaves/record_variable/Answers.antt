@@ -2,7 +2,6 @@
 -- Assumes nothing.
 use native.Mathlib.Omega.{arith}
 use Rattle.recording.proofs.RecordLaws.{uint-declared, variable-none, variable-pushed, variable-free}
-use borrow.Author.Rules.{rules}
 use Rattle.evaluators.proofs.OtherAnswers.{answer-no-uint}
 use Rattle.recording.proofs.leaves.record_variable.Goals as goal
 

@@ -1,7 +1,6 @@
 -- By the number of the array.
 -- Assumes nothing.
 use Rattle.recording.proofs.RecordLaws.{held_none, held-some}
-use borrow.Author.Rules.{rules}
 use Rattle.recording.proofs.marks.is_held.Goals as goal
 
 pub returns-then-count-to : goal.returns-then-count-to

@@ -2,7 +2,6 @@
 -- Assumes nothing.
 use borrow.Author.Tests.{eq-eqb, ne_eqb}
 use Rattle.model.specs.Class.{tracked}
-use borrow.Author.Rules.{rules}
 use Rattle.recording.proofs.marks.is_place.Goals as goal
 
 pub returns-then-own-v : goal.returns-then-own-v

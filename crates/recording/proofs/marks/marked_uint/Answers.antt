@@ -1,7 +1,6 @@
 -- By the kind and the mark of the declaration.
 -- Assumes nothing.
 use Rattle.model.specs.Table.{marked}
-use borrow.Author.Rules.{rules}
 use Rattle.recording.proofs.marks.marked_uint.Goals as goal
 
 pub returns : goal.returns
