@@ -10,7 +10,7 @@ use lib.ListN.{length, get_or, replicate, get_or-replicate}
 use lib.Seq.{length-paste}
 use lib.Dec.{ltb, leb}
 use borrow.Author.Tests.{ltb-true, ltb-false, leb-true, leb-false, ne_eqb}
-use Rattle.lists.specs.If.{if◌then◌else◌}
+use Rattle.std.specs.Prelude.{if◌then◌else◌}
 use Rattle.lists.specs.Tab.{tab}
 use Rattle.lists.proofs.TabLaws.{length-tab, at-tab, same-tab}
 use Rattle.model.specs.Table.{Stretch, stretch, within, locals_at}

@@ -8,7 +8,7 @@ use mathlib.Core.List.{List, [], ◌∷◌, ◌++◌}
 use lib.ListN.{length, length-append}
 use lib.Dec.{ltb}
 use borrow.Author.Tests.{ltb-true}
-use Rattle.lists.specs.If.{if◌then◌else◌}
+use Rattle.std.specs.Prelude.{if◌then◌else◌}
 use Rattle.lists.proofs.FallingLaws.{value-is}
 use Rattle.line_checks.specs.Rules.{depth, depth_by}
 use Rattle.model.specs.Table.{Table, Ty, Node, node_kind, node_at, node_roles, type_at, row_at, Row, row_kind, at_end, marked_uint}

@@ -1,6 +1,6 @@
 -- The code's own words: what the loop of the choice writer is lent, and how it stops.
 use Rattle.std.specs.Prelude.{◌≡◌, ℕ, ◌<◌, ◌≤◌, List, [], length, drop, set, ltb, false}
-use Rattle.lists.specs.If.{if◌then◌else◌}
+use Rattle.std.specs.Prelude.{if◌then◌else◌}
 use Rattle.model.specs.Table.{marked_pointer, row_at}
 use Rattle.prepared.specs.Own.{own_table}
 use Rattle.line_checks.specs.Rules.{depth, most_depth}

@@ -2,7 +2,7 @@
 -- no state holds an empty class, and how many cells a reduced array may need; said of the definitions of which those of the public promises are made.
 -- That demand 3 holds of neighbours as of any pair is in Demand3. Proved in proofs/NeighboursProof.
 use Rattle.std.specs.Prelude.{◌≡◌, ◌⊎◌, ℕ, ◌+◌, ◌*◌, ◌<◌, ◌≤◌, true, List, get_or, ltb}
-use Rattle.lists.specs.If.{if◌then◌else◌}
+use Rattle.std.specs.Prelude.{if◌then◌else◌}
 use Rattle.table.specs.declared.Verdict.TheVariants.{Passes, Refused}
 use Rattle.table.specs.Checks.{table_check}
 use Rattle.reduction.specs.Reduction.{places_check}

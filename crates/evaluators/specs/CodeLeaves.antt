@@ -1,6 +1,6 @@
 -- What the parts of the evaluators say: the model's own definitions, as the code groups them.
 use Rattle.std.specs.Prelude.{◌≡◌, ℕ, ◌+◌, Bool, true, false, ◌||◌, List, length, get_or, drop, ltb, leb, eqb}
-use Rattle.lists.specs.If.{if◌then◌else◌}
+use Rattle.std.specs.Prelude.{if◌then◌else◌}
 use Rattle.model.specs.Class.{class, tracked}
 use Rattle.model.specs.Table.{Ty, Line, node_at, Node, node_kind}
 use Rattle.model.specs.Table.Node.{variable, uint_constant, bool_constant, cell, plus, minus, less, at_most, equal, conditional, valid, class_variable}

@@ -1,6 +1,6 @@
 // What working out a node gives, and the answers that need no column: sums, tests and choices.
 ghost use Rattle.std.specs.Prelude.{◌≡◌, true, drop, eqb};
-ghost use Rattle.lists.specs.If.{if◌then◌else◌};
+ghost use Rattle.std.specs.Prelude.{if◌then◌else◌};
 ghost use Rattle.model.specs.Class.{class};
 ghost use Rattle.model.specs.Table.Ty.{bool, uint, pointer};
 ghost use Rattle.model.specs.Work.{reason_number, give, choose};

@@ -3,7 +3,7 @@
 use Rattle.std.proofs.Common.{◌≡◌, ℕ, zero, suc, ◌+◌, ◌-◌, ◌*◌, ◌/◌, ◌%◌, ◌^◌, ◌<◌, ◌≤◌, min, Bool, true, false, eqb, ltb, List, length, get_or, refl, ◌∙◌, arith, ext_get_or, le-ltb, lt-ltb, eq-eqb}
 use borrow.Author.Tests.{eqb-false}
 use lib.ListN.{get_or-eq_default}
-use Rattle.lists.specs.If.{if◌then◌else◌}
+use Rattle.std.specs.Prelude.{if◌then◌else◌}
 use Rattle.lists.specs.Tab.{sum}
 use Rattle.lists.proofs.TabLaws.{length-tab, at-tab, same_sum, all_true}
 use Rattle.lists.proofs.FirstLaws.{first-nowhere}

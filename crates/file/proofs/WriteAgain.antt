@@ -3,7 +3,7 @@
 use Rattle.std.proofs.Common.{◌≡◌, ℕ, zero, suc, ◌+◌, ◌*◌, ◌/◌, ◌%◌, ◌<◌, ◌≤◌, Bool, true, false, eqb, ltb, List, length, get_or, take, sym, refl, ◌∙◌, arith, ext_get_or, ltb-false, ltb-true, eqb-true}
 use borrow.Author.Tests.{eqb-false}
 use lib.ListN.{get_or-eq_default}
-use Rattle.lists.specs.If.{if◌then◌else◌}
+use Rattle.std.specs.Prelude.{if◌then◌else◌}
 use Rattle.lists.specs.Tab.{sum, padded}
 use Rattle.lists.proofs.TabLaws.{length-tab, at-tab, same_sum, sum_more, take-padded}
 use Rattle.file.specs.Layout.{lines_in, blocks_for, lines_held, body_word, file_word, file_byte, file_bytes}

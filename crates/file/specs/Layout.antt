@@ -1,7 +1,7 @@
 -- The file of a table, by place (section 5 of the rules).
 -- `ws` is a table's words, k a block, r a word of a block.
 use Rattle.std.specs.Prelude.{ℕ, ◌+◌, ◌-◌, ◌*◌, ◌/◌, ◌%◌, ◌^◌, min, List, length, ◌==◌, nat_lt, slice_index_or}
-use Rattle.lists.specs.If.{if◌then◌else◌}
+use Rattle.std.specs.Prelude.{if◌then◌else◌}
 use Rattle.lists.specs.Tab.{tab, sum}
 use Rattle.file.specs.Word.{byte_of}
 

@@ -1,7 +1,7 @@
 -- What the reader answers for any bytes, and the words that it leaves in the buffer lent.
 -- The checks come in order, each over the whole file, and name the first block that breaks them (rules 6.2, 6.3).
 use Rattle.std.specs.Prelude.{ℕ, ◌+◌, ◌-◌, ◌*◌, ◌/◌, ◌%◌, Bool, not, ◌&&◌, ◌||◌, List, length, ◌==◌, nat_eq, nat_lt}
-use Rattle.lists.specs.If.{if◌then◌else◌}
+use Rattle.std.specs.Prelude.{if◌then◌else◌}
 use Rattle.lists.specs.Tab.{tab, sum, all, padded}
 use Rattle.lists.specs.First.{first}
 use Rattle.lists.specs.declared.Found.{Found}

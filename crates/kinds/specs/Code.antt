@@ -1,6 +1,6 @@
 -- What the code keeps in place of the model's words: counts, numbers for the cases of a kind, and what the first checks leave.
 use Rattle.std.specs.Prelude.{◌≡◌, ℕ, ◌+◌, ◌-◌, ◌*◌, ◌/◌, ◌<◌, ◌≤◌, Bool, true, false, not, ◌&&◌, ◌||◌, List, [], ◌∷◌, length, ltb, leb, eqb}
-use Rattle.lists.specs.If.{if◌then◌else◌}
+use Rattle.std.specs.Prelude.{if◌then◌else◌}
 use Rattle.lists.specs.First.{first}
 use Rattle.lists.specs.declared.Found.{Found}
 use Rattle.model.specs.Table.{Table, line_at, is_declaration, is_node, is_row, Node, node_kind, Row, row_kind, Role, Nest, nest_of}

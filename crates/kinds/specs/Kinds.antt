@@ -1,6 +1,6 @@
 -- What the rules say of a line by its kind: its sort, its roles, and checks of nodes and rows by their numbers.
 use Rattle.std.specs.Prelude.{ℕ, ◌+◌, ◌-◌, Bool, true, false}
-use Rattle.lists.specs.If.{if◌then◌else◌}
+use Rattle.std.specs.Prelude.{if◌then◌else◌}
 use Rattle.model.specs.Table.{Table, line_at, is_declaration, is_node, node_kind, row_kind, Roles, declaration_roles, node_roles, row_roles}
 use Rattle.model.specs.State.{MachineKind}
 use Rattle.model.specs.State.MachineKind.{plain, reduced}

@@ -3,7 +3,7 @@
 #![tactic(auto)]
 
 ghost use Rattle.std.specs.Prelude.{◌≡◌, ◌+◌, ◌^◌, ◌<◌, ◌≤◌, get_or};
-ghost use Rattle.lists.specs.If.{if◌then◌else◌};
+ghost use Rattle.std.specs.Prelude.{if◌then◌else◌};
 ghost use Rattle.model.specs.Table.{marked, opens_procedure, row_kind};
 ghost use Rattle.model.specs.Accepted.{known};
 ghost use Rattle.kinds.specs.Kinds.{machine_of, sort_number, roles_of};

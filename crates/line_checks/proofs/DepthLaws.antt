@@ -10,7 +10,7 @@ use lib.ListN.{length, get_or, replicate, set}
 use lib.Seq.{get_or-set_same, get_or-set_other}
 use lib.Dec.{ltb, eqb}
 use borrow.Author.Tests.{ltb-true}
-use Rattle.lists.specs.If.{if◌then◌else◌}
+use Rattle.std.specs.Prelude.{if◌then◌else◌}
 use Rattle.lists.proofs.FallingLaws.{value-is}
 use Rattle.model.specs.Table.{Table, node_at, node_kind, Role, node_roles}
 use Rattle.model.specs.Table.Role.{unused, flag, number, a_variable, a_node}

@@ -9,7 +9,7 @@ use mathlib.Core.List.{List}
 use lib.ListN.{length, get_or, set}
 use lib.Dec.{ltb}
 use borrow.Author.Tests.{ltb-true, leb-true, le-ltb, le-leb, ne_eqb}
-use Rattle.lists.specs.If.{if◌then◌else◌}
+use Rattle.std.specs.Prelude.{if◌then◌else◌}
 use Rattle.lists.proofs.BoolLaws.{and_left}
 use Rattle.lists.proofs.FallingLaws.{value-is}
 use Rattle.model.specs.Table.{Table, line_at, is_node, is_row, node_at, type_at, Ty, Node, node_kind, Row, row_kind, Role, node_roles, row_roles, marked_uint}

@@ -1,6 +1,6 @@
 -- What the code keeps in place of the model's words: in buffers, types and depths of nodes.
 use Rattle.std.specs.Prelude.{◌≡◌, ℕ, ◌+◌, ◌*◌, ◌<◌, Bool, List, get_or, ltb, eqb}
-use Rattle.lists.specs.If.{if◌then◌else◌}
+use Rattle.std.specs.Prelude.{if◌then◌else◌}
 use Rattle.lists.specs.Tab.{all}
 use Rattle.model.specs.Table.{Table, line_at, type_of, marked, row_kind, opens_procedure}
 use Rattle.model.specs.Accepted.{node_type, ty_number}

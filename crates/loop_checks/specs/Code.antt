@@ -1,6 +1,6 @@
 -- What the code keeps in place of the model's words: of open loops how many there are, and in a buffer their rows.
 use Rattle.std.specs.Prelude.{◌≡◌, ℕ, zero, suc, ◌-◌, ◌<◌, Bool, false, ◌||◌, List, [], ◌∷◌, get_or, leb, eqb}
-use Rattle.lists.specs.If.{if◌then◌else◌}
+use Rattle.std.specs.Prelude.{if◌then◌else◌}
 use Rattle.lists.specs.First.{walk}
 use Rattle.model.specs.Table.{Table, nest_at, scanned}
 use Rattle.model.specs.Accepted.{most_open, misnested}

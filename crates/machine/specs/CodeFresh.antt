@@ -1,6 +1,6 @@
 -- The record of a fresh run.
 use Rattle.std.specs.Prelude.{ℕ, List, replicate, ltb}
-use Rattle.lists.specs.If.{if◌then◌else◌}
+use Rattle.std.specs.Prelude.{if◌then◌else◌}
 use Rattle.lists.specs.Tab.{tab}
 use Rattle.model.specs.Class.{class}
 use Rattle.model.specs.State.{Value, start_of}

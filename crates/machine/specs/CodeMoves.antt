@@ -1,6 +1,6 @@
 -- What a row comes to, seen as the model's move, the machine and the state after a step, and what a row is lent.
 use Rattle.std.specs.Prelude.{◌≡◌, ℕ, suc, ◌+◌, ◌<◌, ◌≤◌, ◌≢◌, List, [], ◌∷◌, length, get_or, drop, set, Bool, true, false}
-use Rattle.lists.specs.If.{if◌then◌else◌}
+use Rattle.std.specs.Prelude.{if◌then◌else◌}
 use Rattle.model.specs.Class.{class}
 use Rattle.model.specs.Table.{Table, row_at, Row, row_kind, nest_at, opening, locals_at}
 use Rattle.model.specs.Table.Row.{store, reduced_store, loop, class_loop, call}

@@ -2,7 +2,7 @@
 // record is found by a computed place and nothing of it is lent here, and the compiler copies that column and no other. Each is small, and
 // `step` has one caller, for the same reason. For the loops of our crates above, which see to what is required.
 ghost use Rattle.std.specs.Prelude.{◌≡◌, ◌+◌, ◌<◌, ◌≤◌, length, replicate};
-ghost use Rattle.lists.specs.If.{if◌then◌else◌};
+ghost use Rattle.std.specs.Prelude.{if◌then◌else◌};
 ghost use Rattle.model.specs.Step.{cleared};
 ghost use Rattle.calls.specs.CallAndReturn.{Procedures};
 ghost use Rattle.machine.specs.View.{own_state};

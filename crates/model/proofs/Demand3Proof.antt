@@ -7,7 +7,7 @@ use native.Mathlib.Omega.{arith}
 use mathlib.Core.Bool.{Bool, true, false, true≢false, false≢true}
 use mathlib.Core.List.{List, [], ◌∷◌, ◌++◌, append-nil}
 use lib.ListN.{length, get_or}
-use Rattle.lists.specs.If.{if◌then◌else◌}
+use Rattle.std.specs.Prelude.{if◌then◌else◌}
 use Rattle.lists.proofs.TabLaws.{at-tab, length-tab}
 use Rattle.model.specs.Class.{accepted_places, class, tracked}
 use Rattle.model.specs.Table.{most, Table, Ty, home, open_at, table_of, type_at}

@@ -11,7 +11,7 @@ use lib.ListN.{length, get_or, set}
 use lib.Seq.{get_or-set_same, get_or-set_other}
 use lib.Dec.{ltb, leb, eqb}
 use borrow.Author.Tests.{ltb-true, leb-true, leb-false}
-use Rattle.lists.specs.If.{if◌then◌else◌}
+use Rattle.std.specs.Prelude.{if◌then◌else◌}
 use Rattle.lists.proofs.TabLaws.{at-tab}
 use Rattle.model.specs.Class.{HeldClass, class}
 use Rattle.model.specs.Table.{Node, Row, Table, Ty, at_end, home, is_opening, locals_at, matching_end, nest_at, nest_of, node_at, node_kind, open_at, opening}

@@ -3,7 +3,7 @@
 use mathlib.Core.Path.{◌≡◌, refl, ap, ◌∙◌, fun_ext}
 use Prim.Native.Nat.{ℕ, zero, suc, ◌-◌}
 use mathlib.Core.Bool.{Bool, true, false}
-use Rattle.lists.specs.If.{if◌then◌else◌}
+use Rattle.std.specs.Prelude.{if◌then◌else◌}
 use Rattle.lists.specs.First.{walk}
 use Rattle.model.specs.Table.{Node, Row, Table, marked_pointer, marked_uint, matching_end, nest_at, nest_of, node_at, node_kind, row_at, row_kind, scanned, type_at}
 use Rattle.model.specs.Table.{at_end, counted, home, is_opening, locals_at, locals_of, opening, opens_procedure, stretch, within}

@@ -8,7 +8,7 @@ use mathlib.Core.Bool.{Bool, true, false}
 use mathlib.Core.List.{List}
 use lib.ListN.{length, get_or, get_or-eq_default}
 use borrow.Author.Tests.{lt-ltb}
-use Rattle.lists.specs.If.{if◌then◌else◌}
+use Rattle.std.specs.Prelude.{if◌then◌else◌}
 use Rattle.lists.proofs.TabLaws.{all_true, at-tab, length-tab}
 use Rattle.model.specs.Table.{Stretch, Table, Ty, home, locals_at, locals_of, marked_uint, row_at, row_kind, stretch, type_at, within}
 use Rattle.model.specs.Table.Ty.{uint}

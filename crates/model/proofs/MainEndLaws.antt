@@ -10,7 +10,7 @@ use mathlib.Core.List.{List, [], ◌∷◌}
 use lib.ListN.{length}
 use lib.Dec.{ltb}
 use borrow.Author.Tests.{lt-ltb, ltb-true}
-use Rattle.lists.specs.If.{if◌then◌else◌}
+use Rattle.std.specs.Prelude.{if◌then◌else◌}
 use Rattle.lists.specs.First.{walk}
 use Rattle.lists.proofs.BoolLaws.{and_left, and_right}
 use Rattle.model.specs.Table.{Table, is_opening, at_end, home, counted, opening}

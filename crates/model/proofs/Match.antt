@@ -4,7 +4,7 @@ use mathlib.Core.Path.{◌≡◌, refl, sym, ap, ◌∙◌, subst, fun_ext}
 use Prim.Native.Nat.{ℕ}
 use mathlib.Core.Bool.{Bool, true, false}
 use mathlib.Core.List.{List, [], ◌∷◌, ◌++◌, append_assoc, append-nil}
-use Rattle.lists.specs.If.{if◌then◌else◌}
+use Rattle.std.specs.Prelude.{if◌then◌else◌}
 use Rattle.model.specs.Work.{Reason, Out, Work, ◌>>=◌, choose, fail, give, next, wrong}
 use Rattle.model.specs.Work.Out.{gives, fails, bad_choice, no_choice, stuck}
 use Rattle.model.specs.State.{MachineKind}

@@ -7,7 +7,7 @@ use mathlib.Core.List.{List, [], ◌++◌}
 use lib.ListN.{length, get_or}
 use lib.Dec.{ltb, leb, eqb}
 use borrow.Author.Tests.{leb-true, ltb-true, lt-ltb, eq-eqb}
-use Rattle.lists.specs.If.{if◌then◌else◌}
+use Rattle.std.specs.Prelude.{if◌then◌else◌}
 use Rattle.model.specs.Class.{class, tracked}
 use Rattle.model.specs.Table.{Node, Table, Ty, marked_uint, node_at, node_kind, most}
 use Rattle.model.specs.Table.Ty.{bool, uint, pointer}

@@ -9,7 +9,7 @@ use mathlib.Core.List.{List}
 use lib.ListN.{length, get_or}
 use lib.Dec.{eqb}
 use borrow.Author.Tests.{eqb-true, eq-eqb}
-use Rattle.lists.specs.If.{if◌then◌else◌}
+use Rattle.std.specs.Prelude.{if◌then◌else◌}
 use Rattle.lists.proofs.TabLaws.{all-at}
 use Rattle.model.specs.Table.{Row, Table, home, locals_at, locals_of, marked_uint, type_at, row_at, row_kind, row_roles, stretch, within}
 use Rattle.model.specs.Table.Ty.{uint}

@@ -6,7 +6,7 @@ use native.Mathlib.Omega.{arith}
 use mathlib.Core.Bool.{Bool, true, false, not, ◌&&◌, ◌||◌}
 use lib.Dec.{leb, eqb}
 use borrow.Author.Tests.{ltb-true, lt-ltb, lt-leb, le-leb, ne_eqb, eqb-true, eqb-false}
-use Rattle.lists.specs.If.{if◌then◌else◌}
+use Rattle.std.specs.Prelude.{if◌then◌else◌}
 use Rattle.model.specs.Table.{most}
 use Rattle.model.specs.Class.{accepted_places, candidate, class, class_held, pair, tracked}
 use Rattle.model.specs.Pair.{EmptyBetween, PairAccepted, PairClass, PairClasses, PairHeld, PairTracked}

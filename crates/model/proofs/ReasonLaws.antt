@@ -8,7 +8,7 @@ use mathlib.Core.Bool.{Bool, true, false, ◌&&◌}
 use mathlib.Core.List.{List, [], ◌∷◌}
 use lib.ListN.{length}
 use lib.Dec.{ltb, leb, eqb}
-use Rattle.lists.specs.If.{if◌then◌else◌}
+use Rattle.std.specs.Prelude.{if◌then◌else◌}
 use Rattle.model.specs.Class.{class}
 use Rattle.model.specs.Table.{Table, Ty, Node, node_at, node_kind, type_at, row_at, Row, row_kind, matching_end, at_end, opening, Stretch, most}
 use Rattle.model.specs.Table.Ty.{bool, uint, pointer}

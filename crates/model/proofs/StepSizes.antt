@@ -9,7 +9,7 @@ use mathlib.Core.List.{List, [], ◌∷◌}
 use lib.ListN.{length, get_or, length-set}
 use lib.Dec.{ltb, leb, eqb}
 use borrow.Author.Tests.{leb-true}
-use Rattle.lists.specs.If.{if◌then◌else◌}
+use Rattle.std.specs.Prelude.{if◌then◌else◌}
 use Rattle.model.specs.Class.{class}
 use Rattle.model.specs.Table.{Table, type_at, row_at, Row, row_kind, at_end, locals_at}
 use Rattle.model.specs.Table.Ty.{bool, uint, pointer}

@@ -1,6 +1,6 @@
 -- Check 17: whose local a variable is, what a row uses, and which rows break a rule of procedures.
 use Rattle.std.specs.Prelude.{◌≡◌, ℕ, suc, ◌+◌, ◌<◌, Bool, true, false, not, ◌&&◌, ◌||◌, ltb, eqb}
-use Rattle.lists.specs.If.{if◌then◌else◌}
+use Rattle.std.specs.Prelude.{if◌then◌else◌}
 use Rattle.lists.specs.Tab.{sum, all}
 use Rattle.lists.specs.First.{walk}
 use Rattle.lists.specs.Falling.{value_at}

@@ -1,6 +1,6 @@
 -- A run that is stopped and gone on with is one run, from any state and under any choices, and so is a run in turns. Proved in proofs/PartLaws.
 use Rattle.std.specs.Prelude.{◌≡◌, ℕ, zero, suc, ◌+◌, ◌*◌, ◌-◌, Bool, true, false, List, leb}
-use Rattle.lists.specs.If.{if◌then◌else◌}
+use Rattle.std.specs.Prelude.{if◌then◌else◌}
 use Rattle.model.specs.Table.{Table}
 use Rattle.model.specs.State.{State}
 use Rattle.model.specs.Step.{End, Report, run}

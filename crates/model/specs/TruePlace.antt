@@ -1,7 +1,7 @@
 -- The reduced write is judged by its true place (rules 3.17, 3.18): what row 40 comes to, and that it fails exactly where row 34 does.
 -- proofs/TruePlaceLaws shows it.
 use Rattle.std.specs.Prelude.{◌≡◌, ℕ, suc, ◌+◌, ◌<◌, ◌≤◌, List, [], length}
-use Rattle.lists.specs.If.{if◌then◌else◌}
+use Rattle.std.specs.Prelude.{if◌then◌else◌}
 use Rattle.model.specs.Table.{Table, table_of, row_at, row_kind}
 use Rattle.model.specs.Table.Ty.{uint, pointer}
 use Rattle.model.specs.Table.Row.{store, reduced_store}

@@ -1,7 +1,7 @@
 -- What the bench program answers to an input (section 8 of the rules).
 use Rattle.std.specs.Prelude.{ℕ, ◌*◌, List, [], length, take, drop, replicate, ltb}
 use Rattle.machine.specs.View.{end_of}
-use Rattle.lists.specs.If.{if◌then◌else◌}
+use Rattle.std.specs.Prelude.{if◌then◌else◌}
 use Rattle.table.specs.declared.Verdict.{Verdict}
 use Rattle.table.specs.declared.Verdict.TheVariants.{Passes, Refused}
 use Rattle.table.specs.Checks.{table_check, and_then}

@@ -10,7 +10,7 @@ use mathlib.Core.List.{List}
 use lib.ListN.{length, get_or, set, length-set}
 use lib.Seq.{get_or-set_same, get_or-set_other}
 use borrow.Author.Tests.{ne_eqb}
-use Rattle.lists.specs.If.{if◌then◌else◌}
+use Rattle.std.specs.Prelude.{if◌then◌else◌}
 use Rattle.kinds.specs.Kinds.{machine_of}
 use Rattle.model.specs.Table.{type_of, marked, marked_uint}
 use Rattle.model.specs.State.{classed}

@@ -1,7 +1,7 @@
 -- The run's own copy of a table: 32 declarations, what the run is told, 1,024 nodes and 256 rows, each sort at a fixed place and zeros where
 -- the table has no line. It is a table in its own right; `Same` says that it runs as the table does.
 use Rattle.std.specs.Prelude.{◌≡◌, ℕ, ◌+◌, ◌*◌, ◌<◌, ◌≤◌, List, [], length, get_or, eqb}
-use Rattle.lists.specs.If.{if◌then◌else◌}
+use Rattle.std.specs.Prelude.{if◌then◌else◌}
 use Rattle.model.specs.Class.{pair}
 use Rattle.model.specs.Table.{Table, node_at, row_at}
 use Rattle.model.specs.State.{Value}

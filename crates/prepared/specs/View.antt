@@ -1,6 +1,6 @@
 -- What a run is told beside its table: which machine it is and its tracked places; what each variable holds, by its declaration; and the arrays.
 use Rattle.std.specs.Prelude.{ℕ, List, get_or, leb, eqb}
-use Rattle.lists.specs.If.{if◌then◌else◌}
+use Rattle.std.specs.Prelude.{if◌then◌else◌}
 use Rattle.lists.specs.Tab.{tab}
 use Rattle.kinds.specs.Kinds.{machine_of}
 use Rattle.model.specs.Class.{pair}

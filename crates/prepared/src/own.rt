@@ -1,6 +1,6 @@
 // The run's own copy of a table, and the words of its rows.
 ghost use Rattle.std.specs.Prelude.{◌≡◌, ◌+◌, ◌*◌, ◌≤◌, length, get_or, replicate};
-ghost use Rattle.lists.specs.If.{if◌then◌else◌};
+ghost use Rattle.std.specs.Prelude.{if◌then◌else◌};
 ghost use Rattle.prepared.specs.CodeOwn.{copied, told, Formed};
 ghost use Rattle.prepared.specs.Own.{Own, own_words};
 ghost use Rattle.prepared.specs.View.{table_for};

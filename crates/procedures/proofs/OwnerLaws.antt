@@ -9,7 +9,7 @@ use mathlib.Core.List.{List}
 use lib.ListN.{get_or, replicate}
 use lib.Dec.{eqb}
 use borrow.Author.Tests.{ne_eqb, eqb-true}
-use Rattle.lists.specs.If.{if◌then◌else◌}
+use Rattle.std.specs.Prelude.{if◌then◌else◌}
 use Rattle.lists.specs.First.{walk}
 use Rattle.model.specs.Table.{Table, is_opening, locals_of, row_at, within}
 use Rattle.model.specs.Procedures.{owner}

@@ -10,7 +10,7 @@ use mathlib.Core.List.{List}
 use lib.ListN.{get_or}
 use lib.Dec.{ltb, leb, eqb}
 use borrow.Author.Tests.{eqb-true, leb-true, ne_eqb}
-use Rattle.lists.specs.If.{if◌then◌else◌}
+use Rattle.std.specs.Prelude.{if◌then◌else◌}
 use Rattle.lists.specs.Tab.{all}
 use Rattle.lists.proofs.TabLaws.{all-at, all_more, all-stop}
 use Rattle.lists.proofs.BoolLaws.{and_left}

@@ -9,7 +9,7 @@ use mathlib.Core.List.{List}
 use lib.ListN.{length, get_or, set}
 use lib.Dec.{ltb, eqb}
 use borrow.Author.Tests.{lt-ltb, ltb-true, ne_eqb, eqb-true, eqb-false}
-use Rattle.lists.specs.If.{if◌then◌else◌}
+use Rattle.std.specs.Prelude.{if◌then◌else◌}
 use Rattle.lists.proofs.FallingLaws.{value-is}
 use Rattle.lists.proofs.BoolLaws.{and_left}
 use Rattle.model.specs.Table.{Table, Line, Role, Roles, home, node_at, row_at, node_kind, row_kind, node_roles, row_roles}

@@ -1,6 +1,6 @@
 -- What the code keeps of procedures in place of the model's words: the map on the way, and numbers for owners, uses and rows.
 use Rattle.std.specs.Prelude.{◌≡◌, ℕ, ◌+◌, ◌<◌, ◌≤◌, Bool, true, not, ◌&&◌, ◌||◌, List, length, get_or, set, ltb, eqb}
-use Rattle.lists.specs.If.{if◌then◌else◌}
+use Rattle.std.specs.Prelude.{if◌then◌else◌}
 use Rattle.lists.specs.Tab.{all}
 use Rattle.model.specs.Table.{Table, line_at, marked, row_kind, between, opens_procedure, open_at, home, stretch, within}
 use Rattle.model.specs.Procedures.{most_procedures, opened_before, owner, Uses, node_uses}

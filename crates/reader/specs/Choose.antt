@@ -1,6 +1,6 @@
 -- The list is read from its front, through one reader, which has the lent list and a cursor (rule 3.11).
 use Rattle.std.specs.Prelude.{ℕ, ◌+◌, List, length, get_or, ltb}
-use Rattle.lists.specs.If.{if◌then◌else◌}
+use Rattle.std.specs.Prelude.{if◌then◌else◌}
 use Rattle.reader.specs.declared.Choice.{Choice}
 use Rattle.reader.specs.declared.Choice.TheVariants.{Is, NoneLeft}
 

@@ -9,7 +9,7 @@ use mathlib.Core.List.{List, []}
 use lib.ListN.{length, drop, replicate, length-drop, length-replicate}
 use lib.Seq.{drop-nil}
 use lib.Dec.{ltb, leb}
-use Rattle.lists.specs.If.{if◌then◌else◌}
+use Rattle.std.specs.Prelude.{if◌then◌else◌}
 use Rattle.model.specs.Table.{Ty}
 use Rattle.model.specs.Table.Ty.{bool, uint, pointer}
 use Rattle.model.specs.Work.{Reason, Out, Work, next, ◌>>=◌, give, fail, wrong}

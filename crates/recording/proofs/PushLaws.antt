@@ -10,7 +10,7 @@ use lib.ListN.{length, set, take, drop, length-set}
 use lib.Seq.{sets, sets-eq}
 use lib.Dec.{ltb}
 use borrow.Author.Tests.{lt-ltb, le-ltb}
-use Rattle.lists.specs.If.{if◌then◌else◌}
+use Rattle.std.specs.Prelude.{if◌then◌else◌}
 use Rattle.recording.specs.CodePushes.{Pushed, pushed, push, push_all}
 
 -- one number, where there is a place for it and where there is none

@@ -1,6 +1,6 @@
 -- A lent buffer with a place in it, onto which numbers are pushed in order.
 use Rattle.std.specs.Prelude.{ℕ, ◌+◌, List, [], ◌∷◌, length, set, ltb}
-use Rattle.lists.specs.If.{if◌then◌else◌}
+use Rattle.std.specs.Prelude.{if◌then◌else◌}
 
 -- the buffer, and the place of the next number
 pub record Pushed : Type 0 where

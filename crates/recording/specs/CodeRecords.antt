@@ -1,6 +1,6 @@
 -- What a recording evaluator says: the value of a node in the plain machine, and the numbers that go with it.
 use Rattle.std.specs.Prelude.{◌≡◌, ℕ, suc, ◌<◌, ◌≤◌, Bool, true, false, List, [], ◌∷◌, get_or, ltb, eqb}
-use Rattle.lists.specs.If.{if◌then◌else◌}
+use Rattle.std.specs.Prelude.{if◌then◌else◌}
 use Rattle.lists.specs.Tab.{tab}
 use Rattle.model.specs.Class.{pair, tracked}
 use Rattle.model.specs.Table.{Ty, node_at, row_at, marked_uint}

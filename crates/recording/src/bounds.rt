@@ -1,6 +1,6 @@
 // The numbers that a loop has of its own, besides those of its operands.
 ghost use Rattle.std.specs.Prelude.{◌≡◌, [], ◌∷◌};
-ghost use Rattle.lists.specs.If.{if◌then◌else◌};
+ghost use Rattle.std.specs.Prelude.{if◌then◌else◌};
 ghost use Rattle.model.specs.Table.{row_at, marked_uint};
 ghost use Rattle.prepared.specs.Own.{own_table};
 ghost use Rattle.recording.specs.CodePushes.{pushed, push_all};

@@ -12,7 +12,7 @@ use lib.Seq.{drop-nil}
 use lib.Dec.{ltb, leb}
 use types.Run.{OneOf}
 use denote.Enum.Declared.{tag_of}
-use Rattle.lists.specs.If.{if◌then◌else◌}
+use Rattle.std.specs.Prelude.{if◌then◌else◌}
 use Rattle.lists.specs.declared.Found.{Found}
 use Rattle.lists.specs.declared.Found.TheVariants.{At, Nothing}
 use Rattle.model.specs.Table.{Table, Ty, row_at, marked}

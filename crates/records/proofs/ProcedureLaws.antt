@@ -8,7 +8,7 @@ use mathlib.Core.Path.{◌≡◌, refl, sym, ◌∙◌, subst}
 use mathlib.Core.Bool.{Bool, true, false}
 use lib.Dec.{ltb, leb}
 use borrow.Author.Tests.{ltb-true, lt-ltb, leb-true}
-use Rattle.lists.specs.If.{if◌then◌else◌}
+use Rattle.std.specs.Prelude.{if◌then◌else◌}
 use Rattle.lists.specs.Tab.{sum}
 use Rattle.lists.proofs.BoolLaws.{and_left, and_right}
 use Rattle.model.specs.Table.{Stretch, Table, between, home, is_opening, locals_at, locals_of, marked_uint, none_open, open_at, opening, row_at, row_kind, type_at}

@@ -10,7 +10,7 @@ use lib.ListN.{get_or, drop}
 use lib.Seq.{drop-drop}
 use lib.Dec.{leb, eqb}
 use borrow.Author.Tests.{le-leb, lt-leb, eq-eqb, ne_eqb}
-use Rattle.lists.specs.If.{if◌then◌else◌}
+use Rattle.std.specs.Prelude.{if◌then◌else◌}
 use Rattle.lists.specs.Tab.{listed, tab}
 use Rattle.model.specs.Table.{Table, row_at, Nest, nested, nest_at, open_at}
 use Rattle.model.specs.Table.Nest.{opens, closes, neither}

@@ -1,7 +1,7 @@
 -- Check 15, condition by condition (rules 7.1 to 7.12, 7.15 to 7.18), of the state that the record holds. A slot that is not in use is no part of the
 -- state (rule 7.13). ps are the places that the machine tracks; the plain one has none.
 use Rattle.std.specs.Prelude.{ℕ, suc, ◌+◌, Bool, true, false, not, ◌&&◌, ◌||◌, List, [], ◌∷◌, map, length, get_or, ltb, leb, eqb}
-use Rattle.lists.specs.If.{if◌then◌else◌}
+use Rattle.std.specs.Prelude.{if◌then◌else◌}
 use Rattle.lists.specs.Tab.{all}
 use Rattle.model.specs.Class.{class_held}
 use Rattle.model.specs.Table.{Table, Ty, type_at, row_at, Row, row_kind, open_at, home, opening, locals_at}

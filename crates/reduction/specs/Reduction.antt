@@ -1,6 +1,6 @@
 -- The check of the places and the reduction with its lent table: number and place, and each word of the lent table.
 use Rattle.std.specs.Prelude.{ℕ, List, length}
-use Rattle.lists.specs.If.{if◌then◌else◌}
+use Rattle.std.specs.Prelude.{if◌then◌else◌}
 use Rattle.model.specs.Class.{accepted_places}
 use Rattle.model.specs.State.MachineKind.{plain}
 use Rattle.model.specs.Reduce.{reduce}

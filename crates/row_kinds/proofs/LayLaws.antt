@@ -11,7 +11,7 @@ use lib.ListN.{length, get_or, set, drop, take, replicate, length-drop}
 use lib.Seq.{get_or-set_same, get_or-set_other, length-take-le, drop-drop}
 use lib.Dec.{ltb, leb, eqb}
 use borrow.Author.Tests.{ltb-true, ltb-false, leb-false, le-leb, lt-leb}
-use Rattle.lists.specs.If.{if◌then◌else◌}
+use Rattle.std.specs.Prelude.{if◌then◌else◌}
 use Rattle.lists.specs.Tab.{tab, sum}
 use Rattle.lists.proofs.TabLaws.{tab-snoc, same-tab, tab-none, sum_more}
 use Rattle.model.specs.Table.Ty.{uint}

@@ -1,6 +1,6 @@
 // Rows 35 and 36: assert and assume.
 ghost use Rattle.std.specs.Prelude.{◌≡◌};
-ghost use Rattle.lists.specs.If.{if◌then◌else◌};
+ghost use Rattle.std.specs.Prelude.{if◌then◌else◌};
 ghost use Rattle.machine.specs.declared.End.TheVariants.{AssertFalse, AssumeFalse};
 ghost use Rattle.row_kinds.specs.CodeRows.{tested_of};
 

@@ -1,6 +1,6 @@
 // Row 33: a variable gets the value of a node.
 ghost use Rattle.std.specs.Prelude.{◌≡◌, List, ℕ, ◌<◌, ◌≤◌, ◌^◌, drop, length};
-ghost use Rattle.lists.specs.If.{if◌then◌else◌};
+ghost use Rattle.std.specs.Prelude.{if◌then◌else◌};
 ghost use Rattle.model.specs.Table.Row.{assign};
 ghost use Rattle.prepared.specs.Own.{decls_of};
 ghost use Rattle.machine.specs.CodeMoves.{columns, BoolsFit, RowWorks};

@@ -12,7 +12,7 @@ use Rattle.machine.specs.declared.Machine.{Machine}
 use Rattle.prepared.specs.declared.Frame.{Frame}
 use Rattle.prepared.specs.declared.Form.{Form}
 use Rattle.prepared.specs.declared.Form.TheVariants as Form
-use Rattle.lists.specs.If.{if◌then◌else◌}
+use Rattle.std.specs.Prelude.{if◌then◌else◌}
 use Rattle.lists.proofs.TabLaws.{at-tab, length-tab}
 use Rattle.model.specs.Table.{Nest, Table, Ty, count, nest_at, nested, open_at, type_at}
 use Rattle.model.specs.Table.Ty.{bool, uint, pointer}

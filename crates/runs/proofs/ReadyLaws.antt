@@ -16,7 +16,7 @@ use borrow.Author.Rules.{length_unmapped}
 use Rattle.model.specs.Work.{Out}
 use Rattle.model.specs.Work.Out.{gives}
 use Rattle.lists.specs.Tab.{tab}
-use Rattle.lists.specs.If.{if◌then◌else◌}
+use Rattle.std.specs.Prelude.{if◌then◌else◌}
 use Rattle.model.specs.Table.{Line, Stretch, row_kind, opens_procedure, at_end, locals_at}
 use Rattle.model.specs.State.{State, Value, Caller, caller, position}
 use Rattle.model.specs.Step.{Move as ModelMove, Report, after, finished, run, step}

@@ -3,7 +3,7 @@ use Rattle.std.specs.Prelude.{ℕ, Bool, List}
 use Rattle.table.specs.declared.Verdict.{Verdict}
 use Rattle.table.specs.declared.Verdict.TheVariants.{Passes, Refused}
 use Rattle.table.specs.Checks.{table_check, and_then, size_check}
-use Rattle.lists.specs.If.{if◌then◌else◌}
+use Rattle.std.specs.Prelude.{if◌then◌else◌}
 use Rattle.model.specs.Table.{Table, count, is_declaration, is_node, is_row}
 use Rattle.model.specs.State.{MachineKind, State, cell_count}
 use Rattle.model.specs.State.MachineKind.{plain, reduced}

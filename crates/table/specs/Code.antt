@@ -1,6 +1,6 @@
 -- What the code keeps in place of the model's words: counts.
 use Rattle.std.specs.Prelude.{ℕ, ◌/◌, Bool, List, length}
-use Rattle.lists.specs.If.{if◌then◌else◌}
+use Rattle.std.specs.Prelude.{if◌then◌else◌}
 use Rattle.lists.specs.Tab.{sum}
 use Rattle.lists.specs.First.{first}
 use Rattle.lists.specs.declared.Found.{Found}

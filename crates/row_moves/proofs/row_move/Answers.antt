@@ -197,9 +197,8 @@ returns-in_default c map stack ed calling =
     let g = c.args in
     let m = columns g.row g.ns.now g.bs.now g.«open» g.loop_rows.now g.starts.now g.ends.now g.count g.fs.now g.ls.now
     g.hs.now in
-    let r = c.in_default.rest in
     step-none g.own.now stack m g.cells.now g.list.now g.at c.requires.1
     c.row_word-kind.ensures c.row_word-a.ensures c.row_word-b.ensures c.row_word-c.ensures
-    r.0.0.0.0.0.0.0.0.0.0.0.0.0.1 r.0.0.0.0.0.0.0.0.0.0.0.0.1 r.0.0.0.0.0.0.0.0.0.0.0.1
-    r.0.0.0.0.0.0.0.0.0.0.1 r.0.0.0.0.0.0.0.0.0.1 r.0.0.0.0.0.0.0.0.1 r.0.0.0.0.0.0.0.1 r.0.0.0.0.0.0.1
-    r.0.0.0.0.0.1 r.0.0.0.0.1 r.0.0.0.1 r.0.0.1 r.0.1 r.1
+    (search rules) (search rules) (search rules)
+    (search rules) (search rules) (search rules) (search rules) (search rules)
+    (search rules) (search rules) (search rules) (search rules) (search rules) (search rules)

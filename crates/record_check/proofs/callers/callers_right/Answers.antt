@@ -12,21 +12,12 @@ use Rattle.record_check.proofs.callers.callers_right.Goals as goal
 pub returns-then-depth-gt-CALLERS : goal.returns-then-depth-gt-CALLERS
 returns-then-depth-gt-CALLERS c =
     let g = c.args in
-    callers-many (table_for g.t.now g.f) g.stack.now g.at-work c.if-depth-gt-CALLERS.true
+    callers-many (table_for g.t.now g.f) g.stack.now g.at_work c.if-depth-gt-CALLERS.true
 
 pub loop-n-init : goal.loop-n-init
 loop-n-init c =
     let g = c.args in
-    (omega (arith, c.if-depth-gt-CALLERS.false), callers-all (table_for g.t.now g.f) g.stack.now g.at-work (omega (arith, c.if-depth-gt-CALLERS.false)))
-
--- a caller that calls rightly stands at a row of the table
-there : (c : tie.After-shared-slice-known4 invariant-loop decreases-loop)
-    → let g = c.before.before.before.before.before.before.before.before.before.args in
-    get_or g.stack.now (30 * (c.before.before.before.before.loop.n - 1)) 0 < g.f.counts.rows
-there c =
-    let g = c.before.before.before.before.before.before.before.before.before.args in
-    let l = c.before.before.before.before.loop in
-    calls-there (table_for g.t.now g.f) g.stack.now (30 * (l.n - 1)) l.q (sym c.before.before.calls-right.ensures ∙ c.before.if2.true)
+    (omega (arith, c.if-depth-gt-CALLERS.false), callers-all (table_for g.t.now g.f) g.stack.now g.at_work (omega (arith, c.if-depth-gt-CALLERS.false)))
 
 pub loop-n-preserved : goal.loop-n-preserved
 loop-n-preserved c =
@@ -34,8 +25,8 @@ loop-n-preserved c =
     let l = c.loop-n in
     let t = table_for g.t.now g.f in (
       omega arith,
-      subst (λ q. Left t g.stack.now g.at-work q (l.n - 1)) (sym (c.requires.in_sorts.2.homes _ (omega (arith, there c.before))))
-          (callers-next t g.stack.now g.at-work l.q l.n (l.n - 1) l.invariant.1 (omega arith)
+      subst (λ q. Left t g.stack.now g.at_work q (l.n - 1)) (sym (c.requires.in_sorts.2.homes _ (omega (arith, calls-there (table_for g.t.now g.f) g.stack.now (30 * (l.n - 1)) l.q (sym c.calls_right.ensures ∙ c.if-calls_right.true)))))
+          (callers-next t g.stack.now g.at_work l.q l.n (l.n - 1) l.invariant.1 (omega arith)
           (sym c.calls_right.ensures ∙ c.if-calls_right.true)),
     )
 
@@ -43,11 +34,29 @@ pub returns-else-calls_right : goal.returns-else-calls_right
 returns-else-calls_right c =
     let g = c.args in
     let l = c.loop-n in
-    callers-off (table_for g.t.now g.f) g.stack.now g.at-work l.q l.n (l.n - 1) l.invariant.1 (omega arith)
+    callers-off (table_for g.t.now g.f) g.stack.now g.at_work l.q l.n (l.n - 1) l.invariant.1 (omega arith)
     (sym c.calls_right.ensures ∙ c.if-calls_right.false)
 
 pub returns : goal.returns
 returns c =
     let g = c.args in
     let l = c.loop-n in
-    callers-done (table_for g.t.now g.f) g.stack.now g.at-work l.q l.n l.invariant.1 (omega arith)
+    callers-done (table_for g.t.now g.f) g.stack.now g.at_work l.q l.n l.invariant.1 (omega arith)
+
+pub overflow_add-q : goal.overflow_add-q
+overflow_add-q c =
+    let g = c.args in
+    let l = c.loop-n in
+    omega (arith, calls-there (table_for g.t.now g.f) g.stack.now (30 * (l.n - 1)) l.q (sym c.calls_right.ensures ∙ c.if-calls_right.true), c.requires.in_sorts.0.few_rows)
+
+pub offset_bounds-map-stack : goal.offset_bounds-map-stack
+offset_bounds-map-stack c =
+    let g = c.args in
+    let l = c.loop-n in
+    omega (arith, calls-there (table_for g.t.now g.f) g.stack.now (30 * (l.n - 1)) l.q (sym c.calls_right.ensures ∙ c.if-calls_right.true), c.requires.in_sorts.0.few_rows)
+
+pub bounds-map-stack : goal.bounds-map-stack
+bounds-map-stack c =
+    let g = c.args in
+    let l = c.loop-n in
+    omega (arith, calls-there (table_for g.t.now g.f) g.stack.now (30 * (l.n - 1)) l.q (sym c.calls_right.ensures ∙ c.if-calls_right.true), c.requires.in_sorts.0.few_rows)

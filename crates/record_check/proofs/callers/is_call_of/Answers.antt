@@ -17,16 +17,6 @@ returns-then-t-w-ne-CALL c =
     let g = c.args in
     call-other (table_for g.t.now g.f) g.row g.q (omega (arith, c.if-f-r.false)) c.if-t-w-ne-CALL.true
 
--- a 45 names one of sixteen procedures
-named : (c : tie.After-shared-slice-known2) → let g = c.before.before.before.before.before.before.args in
-    (row_at (table_for g.t.now g.f) g.row).a < 16
-named c =
-    let start = c.before.before.before.before.before.before in
-    let g = start.args in
-    let t = table_for g.t.now g.f in
-    let e : (row_at t g.row).kind ≡ 45 = omega (arith, c.before.if2.false) in
-    call-number (kind_of g.f) t start.requires.1 g.row (omega (arith, c.before.before.before.before.if1.false)) e
-
 pub overflow_add-result : goal.overflow_add-result
 overflow_add-result c =
     let g = c.args in
@@ -46,3 +36,24 @@ returns c =
     let e : (row_at t g.row).kind ≡ 45 = omega (arith, c.if-t-w-ne-CALL.false) in
     let h : g.row < t.rows = omega (arith, c.if-f-r.false) in
     call-named t g.row g.q h e (next-is (kind_of g.f) t c.requires.1 g.row h e g.map.now c.requires.2)
+
+pub overflow_add-k : goal.overflow_add-k
+overflow_add-k c =
+    let g = c.args in
+    let t = table_for g.t.now g.f in
+    let e : (row_at t g.row).kind ≡ 45 = omega (arith, c.if-t-w-ne-CALL.false) in
+    omega (arith, call-number (kind_of g.f) t c.requires.1 g.row (omega (arith, c.if-f-r.false)) e)
+
+pub offset_bounds-map-k : goal.offset_bounds-map-k
+offset_bounds-map-k c =
+    let g = c.args in
+    let t = table_for g.t.now g.f in
+    let e : (row_at t g.row).kind ≡ 45 = omega (arith, c.if-t-w-ne-CALL.false) in
+    omega (arith, call-number (kind_of g.f) t c.requires.1 g.row (omega (arith, c.if-f-r.false)) e)
+
+pub bounds-map-k : goal.bounds-map-k
+bounds-map-k c =
+    let g = c.args in
+    let t = table_for g.t.now g.f in
+    let e : (row_at t g.row).kind ≡ 45 = omega (arith, c.if-t-w-ne-CALL.false) in
+    omega (arith, call-number (kind_of g.f) t c.requires.1 g.row (omega (arith, c.if-f-r.false)) e)
