@@ -1,2 +1,2 @@
--- The theory of the recording evaluators: `JoinLaws`.
-pub mod JoinLaws
+-- What is left of the kinds of a node.
+mod OtherNodes
