@@ -7,12 +7,6 @@ use mathlib.Core.Bool.{true, false}
 use mathlib.Core.List.{List, [], ◌∷◌}
 use lib.ListN.{length, drop, get_or}
 use lib.Dec.{ltb}
-use mir.Val.{Val}
-use types.Run.{OneOf, miss}
-use denote.Laws.{Is}
-use denote.Enum.Declared.{tag_of}
-use denote.Struct.Declared.{row}
-use borrow.Author.Rules.{length_unmapped}
 use Rattle.model.specs.Work.{Out}
 use Rattle.model.specs.Work.Out.{gives}
 use Rattle.lists.specs.Tab.{tab}
@@ -38,8 +32,6 @@ use Rattle.machine.specs.declared.Move.{Move}
 use Rattle.machine.specs.declared.End.TheVariants as Code
 use Rattle.machine.specs.declared.Worked.{Worked}
 use Rattle.machine.specs.declared.Worked.TheVariants.{Moves, Ends, Not}
-use Rattle.machine.specs.contracts.Machine.{the_type as machine}
-use Rattle.machine.specs.contracts.Worked.{the_type as worked}
 use Rattle.machine.specs.View.{end_of, state_by, state_of, own_state}
 use Rattle.machine.specs.CodeMoves.{state_after, move_out, Can, CanDo, StepWorks, Sized, Within}
 use Rattle.runs.specs.declared.Ran.{Ran}
@@ -149,19 +141,6 @@ module _ (t : List ℕ) (f : Frame) (own : List ℕ) (O : Own t f own) (m : Mach
       let limits = own-limits t f own R.laid O in
       (omega (numbers, R.can.here.row, limits.1, O.rows), subst (CanDo own stack m (length cells)) q S.can)
 
--- ---- the columns of a machine are as long as its type says
-pub sized : (m : Machine) {vs : List Val} → Is (row machine) m vs → Sized m
-sized m held = record {
-  numbers = length_unmapped ℕ m.numbers 32 held.1.1.1.0.1.0.1;
-  bases = length_unmapped ℕ m.bases 32 held.1.1.1.1.0.1.0.1;
-  rows = length_unmapped ℕ m.loop_rows 8 held.1.1.1.1.1.1.0.1.0.1;
-  starts = length_unmapped ℕ m.starts 8 held.1.1.1.1.1.1.1.0.1.0.1;
-  ends = length_unmapped ℕ m.ends 8 held.1.1.1.1.1.1.1.1.0.1.0.1;
-  firsts = length_unmapped ℕ m.firsts 16 held.1.1.1.1.1.1.1.1.1.1.0.1.0.1;
-  lengths = length_unmapped ℕ m.lengths 16 held.1.1.1.1.1.1.1.1.1.1.1.0.1.0.1;
-  shapes = length_unmapped ℕ m.shapes 16 held.1.1.1.1.1.1.1.1.1.1.1.1.0.1.0.1;
-}
-
 -- ---- where a run on the copy stands after some steps, of the run of limit steps from m₀, stack₀ and cells₀. The frame is that of the copy
 pub record Left (t own l : List ℕ) (limit : ℕ) (m₀ : Machine) (stack₀ cells₀ : List ℕ) (m : Machine) (stack cells : List ℕ) (at steps : ℕ) : Type 0 where
   pub frame : Frame
@@ -252,13 +231,13 @@ module _ (t own l : List ℕ) (limit : ℕ) where
                   (by-step to-there);
             }
 
-        pub left-stop : OneOf (1 ∷ 2 ∷ []) (tag_of worked w) → (r : Ran) → r ≡ stopped_of w steps at m stack → handed r ≡ all-of-it
+        pub left-stop : ((x : Move) (nx : ℕ) → w ≡ Moves x nx → ⊥) → (r : Ran) → r ≡ stopped_of w steps at m stack → handed r ≡ all-of-it
         unfolding move_out failed
         left-stop h r q = ap handed q ∙ go w h (sym S.said)
           where
-            go : (w : Worked) → OneOf (1 ∷ 2 ∷ []) (tag_of worked w) → step (places_of own) (own_table own) here (drop at l) ≡ move_out own stack m cells l w
+            go : (w : Worked) → ((x : Move) (nx : ℕ) → w ≡ Moves x nx → ⊥) → step (places_of own) (own_table own) here (drop at l) ≡ move_out own stack m cells l w
                 → handed (stopped_of w steps at m stack) ≡ all-of-it
-            go (Moves x nx) h e = absurd (miss (1 ∷ 2 ∷ []) 0 tt h)
+            go (Moves x nx) h e = absurd (h x nx refl)
             go (Ends end nx) h e = by-step e
             go (Not (Fails why) nx) h e = by-step e
             go (Not BadChoice nx) h e = by-step e

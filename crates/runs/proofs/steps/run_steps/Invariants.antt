@@ -14,22 +14,9 @@ use Rattle.machine.specs.View.{end_of, own_state}
 use Rattle.machine.specs.CodeMoves.{StepWorks}
 use Rattle.runs.specs.declared.Ran.{Ran}
 use Rattle.runs.specs.CodeSteps.{kept, RunReports}
-use Rattle.runs.proofs.ReadyLaws.{Left, sized, left-all, left-done, left_out, left-again, left-stop, within, step-bounds, numbers-left, reports-own}
+use Rattle.runs.proofs.ReadyLaws.{Left, left-all, left-done, left_out, left-again, left-stop, within, step-bounds, numbers-left, reports-own}
 use Rattle.runs.proofs.CallingLaws.{calls-fit, procedures-own, table-going, going-on-copy, done-on-copy}
 use Rattle.runs.proofs.steps.run_steps.Given as goal
-
-abbrev pub Laid : Type 0
-Laid = tie.After-lay-out invariant-loop decreases-loop
-
-abbrev pub Head : Type 0
-Head = tie.At-loop invariant-loop decreases-loop
-
-abbrev pub laid : Head → Laid
-laid c = c.before.before.before.before.before
-
--- ---- what is known there
-abbrev pub own : Head → List ℕ
-own c = (laid c).lay-out.new.1.1.0
 
 abbrev pub invariant-loop-m : goal.invariant-loop-m
 invariant-loop-m l =
