@@ -47,7 +47,7 @@ use Rattle.row_kinds.proofs.WriteLaws.{works-by, store-first, store-second, stor
 use Rattle.calls.proofs.StackLaws.{loops-split}
 use Rattle.row_kinds.proofs.LoopLaws.{entry-loops, open-first, open-second, open-both, kind-read, kind-38, row-there}
 use Rattle.row_kinds.proofs.LoopLaws.{repeat-none, repeat-ends, repeat-loop, repeat-other}
-use Rattle.recording.specs.CodePushes.{Pushed, pushed, push, push_all}
+use Rattle.recording.specs.CodePushes.{Pushed, pushed, push_all}
 use Rattle.recording.specs.CodeRecords.{Plain, held_of, pair_of, ReachedBy, Records, Recorded}
 use Rattle.recording_rows.specs.CodeMoves.{ReachedMove, RowRecords}
 use Rattle.recording.proofs.PushLaws.{push-append}
@@ -253,8 +253,8 @@ module _ (own : List ℕ) (m : Machine) (cells held : List ℕ) (plain : Plain o
     abbrev on_next : ℕ → List ℕ
     on_next v = bounds row v end
 
-    next_start : Records uint (next_start (get_or m.starts d 0) []) [] x before (pushed before 0)
-    next_start = says-next x 0 before (get_or m.starts d 0) px
+    next-start : Records uint (next_start (get_or m.starts d 0) []) [] x before (pushed before 0)
+    next-start = says-next x 0 before (get_or m.starts d 0) px
 
     innermost : (stack : List ℕ)
         → given (next_start (get_or m.starts d 0) []) on_next ≡ row_choices (pair_of own) T ks (S stack) m.row loop_end a b c
@@ -265,7 +265,7 @@ module _ (own : List ℕ) (m : Machine) (cells held : List ℕ) (plain : Plain o
     pub repeat-no-start : {z : Worked} → OneOf (0 ∷ 2 ∷ 3 ∷ []) (tag_of answer x) → z ≡ lost_of x → RowRecords own m cells held loop_end a b c z before before
     repeat-no-start t e = record {
       works = λ stack. repeat-ends own stack [] m cells a b c 0 d ed x px t e;
-      numbers = λ stack. rw (← innermost stack) (lost-move on_next (lost-uint x before (pushed before 0) next_start t) e);
+      numbers = λ stack. rw (← innermost stack) (lost-move on_next (lost-uint x before (pushed before 0) next-start t) e);
     }
 
     module _ {from i : ℕ} (ex : x ≡ AUint from i) {k : ℕ} (ek : k ≡ get_or own (4 * (34 + 1024 + row) + 0) 0) where
@@ -277,7 +277,7 @@ module _ (own : List ℕ) (m : Machine) (cells held : List ℕ) (plain : Plain o
             (works-by (works-anywhere (loop_at (places_of own) T (outer own stack m cells d) row loop from end (give (suc m.row))) n i
             (entry-loops own stack m cells [] row from end d true n
             (repeat-fits own m.numbers m.loop_rows m.starts m.ends m.row d ed ek ek38 f) f.loop_rows f.starts f.ends)) e);
-        numbers = λ stack. rw (← innermost stack, (gave-uint x before (pushed before 0) next_start ex).gave, e)
+        numbers = λ stack. rw (← innermost stack, (gave-uint x before (pushed before 0) next-start ex).gave, e)
             (entry_kept last n h own m.numbers m.row row false from end d true);
       }
 

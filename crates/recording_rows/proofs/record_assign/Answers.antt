@@ -1,9 +1,9 @@
 -- By the type of the variable.
 -- Assumes nothing.
+use native.Mathlib.Omega.{arith}
 use mathlib.Core.Path.{sym, ◌∙◌}
 use Rattle.row_kinds.proofs.PutLaws.{type-bool, type-uint, type-pointer}
 use Rattle.recording_rows.proofs.RowLaws.{records-bool, records-uint, records-pointer}
-use borrow.Author.Rules.{rules}
 use Rattle.recording_rows.proofs.record_assign.Goals as goal
 
 pub returns-in-1 : goal.returns-in-1
@@ -25,5 +25,5 @@ returns-in_default c =
     let a = c.args in
     λ row loops d rows starts ends. records-pointer a.own.now _ a.cells.now a.held.now a.out.now _ a.a a.b d _
     c.requires.own_bound.0 c.requires.ns_len.0 c.requires.ns_len.1
-    (type-pointer (λ e. c.in_default.rest.0.1 (c.word_or_zero-kind.ensures ∙ e)) (λ e. c.in_default.rest.1 (c.word_or_zero-kind.ensures ∙ e)))
+    (type-pointer (λ e. omega arith) (λ e. omega arith))
     c.record_pointer.ensures c.put_pointer.ensures

@@ -2,7 +2,6 @@
 -- Assumes nothing.
 use Rattle.machine.specs.CodeMoves.{columns}
 use Rattle.recording_rows.proofs.LoopRowLaws.{loop-no-start, loop-no-end, loop-recorded}
-use borrow.Author.Rules.{rules}
 use Rattle.evaluators.proofs.OtherAnswers.{answer-no-uint}
 use Rattle.recording_rows.proofs.record_loop.Goals as goal
 

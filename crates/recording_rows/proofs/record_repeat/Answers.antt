@@ -4,8 +4,7 @@ use Prim.Native.Nat.{suc, ◌-◌}
 use native.Mathlib.Omega.{arith}
 use mathlib.Core.Path.{◌≡◌}
 use Rattle.machine.specs.CodeMoves.{columns}
-use Rattle.recording_rows.proofs.LoopRowLaws.{repeat-nothing, repeat-no-start, repeat-fits, repeat-recorded, repeat-no-loop}
-use borrow.Author.Rules.{rules}
+use Rattle.recording_rows.proofs.LoopRowLaws.{repeat-nothing, repeat-no-start, repeat-recorded, repeat-no-loop}
 use Rattle.evaluators.proofs.OtherAnswers.{answer-no-uint}
 use Rattle.recording_rows.proofs.record_repeat.Goals as goal
 

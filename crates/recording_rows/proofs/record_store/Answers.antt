@@ -3,7 +3,6 @@
 use mathlib.Core.Path.{refl}
 use Rattle.machine.specs.CodeMoves.{columns}
 use Rattle.recording_rows.proofs.LoopRowLaws.{store-no-place, store-no-value, store-recorded}
-use borrow.Author.Rules.{rules}
 use Rattle.evaluators.proofs.OtherAnswers.{answer-no-pointer, answer-no-uint}
 use Rattle.recording_rows.proofs.record_store.Goals as goal
 

@@ -2,7 +2,6 @@
 -- Assumes nothing.
 use Rattle.machine.specs.CodeMoves.{columns}
 use Rattle.recording_rows.proofs.RowLaws.{records-past}
-use borrow.Author.Rules.{rules}
 use Rattle.recording_rows.proofs.recorded_move.Goals as goal
 
 pub returns-then-own-row : goal.returns-then-own-row
