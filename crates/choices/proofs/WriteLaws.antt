@@ -10,8 +10,6 @@ use mathlib.Core.List.{List, [], ◌∷◌, ◌++◌, append_assoc, append-nil}
 use lib.ListN.{length, take, drop}
 use lib.Seq.{paste, take-paste, drop-paste, length-paste, take-append_seam, drop-drop}
 use borrow.Author.Tests.{le-leb, lt-leb}
-use types.Run.{OneOf, miss}
-use denote.Enum.Declared.{tag_of}
 use Rattle.lists.specs.Tab.{tab, listed}
 use Rattle.model.specs.Table.{Table, row_at}
 use Rattle.model.specs.Work.{Out}
@@ -37,7 +35,6 @@ use Rattle.machine.specs.declared.End.{End}
 use Rattle.machine.specs.declared.End.TheVariants as Code
 use Rattle.machine.specs.declared.Worked.{Worked}
 use Rattle.machine.specs.declared.Worked.TheVariants.{Moves, Ends, Not}
-use Rattle.machine.specs.contracts.Worked.{the_type as worked}
 use Rattle.machine.specs.View.{end_of, state_of, own_state}
 use Rattle.machine.specs.CodeMoves.{state_after, move_out, Can, Sized}
 use Rattle.recording.specs.CodePushes.{Pushed, pushed}
@@ -296,7 +293,7 @@ module _ {t own lent : List ℕ} {limit : ℕ} {m₀ : Machine} {stack₀ cs₀ 
         still-within = let i = inside-list in let s = same_size in omega arith
 
         -- the row ends the run
-        pub left-stop : OneOf (1 ∷ 2 ∷ []) (tag_of worked w) → (r : Ran) → r ≡ stopped_of w steps (at + n) m stack
+        pub left-stop : ((x : Move) (next : ℕ) → w ≡ Moves x next → ⊥) → (r : Ran) → r ≡ stopped_of w steps (at + n) m stack
             → Handed own lent limit m₀ stack₀ cs₀ r cells list'
         unfolding move_out failed
         left-stop h r e = subst (λ (r : Ran). Handed own lent limit m₀ stack₀ cs₀ r cells list') (sym e) (go w row_is h)
@@ -309,9 +306,9 @@ module _ {t own lent : List ℕ} {limit : ℕ} {m₀ : Machine} {stack₀ cs₀ 
               rest = rest-kept;
             }
 
-            go : (w : Worked) → step (places_of own) table here [] ≡ move_out own stack m cells [] w → OneOf (1 ∷ 2 ∷ []) (tag_of worked w)
+            go : (w : Worked) → step (places_of own) table here [] ≡ move_out own stack m cells [] w → ((x : Move) (next : ℕ) → w ≡ Moves x next → ⊥)
                 → Handed own lent limit m₀ stack₀ cs₀ (stopped_of w steps (at + n) m stack) cells list'
-            go (Moves x next) e h = absurd (miss (1 ∷ 2 ∷ []) 0 tt h)
+            go (Moves x next) e h = absurd (h x next refl)
             go (Ends c next) e h = stop-at c (by-step e)
             go (Not (Fails why) next) e h = stop-at (Code.Fail why) (by-step e)
             go (Not BadChoice next) e h = absurd (fails-here BadChoice next e)

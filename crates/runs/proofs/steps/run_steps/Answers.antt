@@ -38,10 +38,10 @@ returns-in_default c =
     let L = h.invariant.0 in
     let more : h.steps < g.limit = omega (arith, L.upto, c.if-steps-limit.false) in
     let going : finished (own_table c.lay_out.new.own) (own_state c.lay_out.new.own h.stack h.m h.cells) ≡ false =
-        going-on-copy _ L.frame _ L.copied h.m h.stack h.cells L.ready _ c.map_own.ensures c.loop-m-test.true in
+    going-on-copy _ L.frame _ L.copied h.m h.stack h.cells L.ready _ c.map_own.ensures c.loop-m-test.true in
     let works : StepWorks c.lay_out.new.own h.stack h.m h.cells g.list.now h.at c.move_of-w.result =
-        c.move_of-w.ensures _ h.stack refl (calls-fit _ L.frame _ L.copied h.m h.stack h.cells L.ready _ c.map_own.ensures
-        (table-going _ L.frame _ L.copied h.m h.stack h.cells L.ready going)) in
+    c.move_of-w.ensures _ h.stack refl (calls-fit _ L.frame _ L.copied h.m h.stack h.cells L.ready _ c.map_own.ensures
+    (table-going _ L.frame _ L.copied h.m h.stack h.cells L.ready going)) in
     reports-own g.t.now g.f _ c.lay_out.ensures g.m g.stack g.cells.now c.requires g.list.now g.limit c.stopped.result h.cells
     (left-stop g.t.now _ g.list.now g.limit g.m g.stack g.cells.now h.m h.stack h.cells h.at h.steps L
     going more works c.in_default.not-Moves _ c.stopped.ensures)
@@ -52,10 +52,10 @@ step-m-requires c =
     let h = c.loop-m in
     let L = h.invariant.0 in
     let going : finished (own_table c.lay_out.new.own) (own_state c.lay_out.new.own h.stack h.m h.cells) ≡ false =
-        going-on-copy _ L.frame _ L.copied h.m h.stack h.cells L.ready _ c.map_own.ensures c.loop-m-test.true in
+    going-on-copy _ L.frame _ L.copied h.m h.stack h.cells L.ready _ c.map_own.ensures c.loop-m-test.true in
     let works : StepWorks c.lay_out.new.own h.stack h.m h.cells g.list.now h.at c.move_of-w.result =
-        c.move_of-w.ensures _ h.stack refl (calls-fit _ L.frame _ L.copied h.m h.stack h.cells L.ready _ c.map_own.ensures
-        (table-going _ L.frame _ L.copied h.m h.stack h.cells L.ready going)) in
+    c.move_of-w.ensures _ h.stack refl (calls-fit _ L.frame _ L.copied h.m h.stack h.cells L.ready _ c.map_own.ensures
+    (table-going _ L.frame _ L.copied h.m h.stack h.cells L.ready going)) in
     let bounds = step-bounds _ L.frame _ L.copied h.m h.stack h.cells L.ready _ h.at works c.in-Moves.is in
     (bounds.0, procedures-own _ L.frame _ L.copied h.m h.stack h.cells L.ready _ c.map_own.ensures, bounds.1)
 
@@ -66,12 +66,11 @@ loop-m-preserved c =
     let L = h.invariant.0 in
     let more : h.steps < g.limit = omega (arith, L.upto, c.if-steps-limit.false) in
     let going : finished (own_table c.lay_out.new.own) (own_state c.lay_out.new.own h.stack h.m h.cells) ≡ false =
-        going-on-copy _ L.frame _ L.copied h.m h.stack h.cells L.ready _ c.map_own.ensures c.loop-m-test.true in
+    going-on-copy _ L.frame _ L.copied h.m h.stack h.cells L.ready _ c.map_own.ensures c.loop-m-test.true in
     let works : StepWorks c.lay_out.new.own h.stack h.m h.cells g.list.now h.at c.move_of-w.result =
-        c.move_of-w.ensures _ h.stack refl (calls-fit _ L.frame _ L.copied h.m h.stack h.cells L.ready _ c.map_own.ensures
-        (table-going _ L.frame _ L.copied h.m h.stack h.cells L.ready going)) in
-    let sized : Sized c.step-m.result = search rules in
-    (
+    c.move_of-w.ensures _ h.stack refl (calls-fit _ L.frame _ L.copied h.m h.stack h.cells L.ready _ c.map_own.ensures
+    (table-going _ L.frame _ L.copied h.m h.stack h.cells L.ready going)) in
+    let sized : Sized c.step-m.result = search rules in (
       left-again g.t.now _ g.list.now g.limit g.m g.stack g.cells.now h.m h.stack h.cells h.at h.steps L
           going more works (numbers-left h.at g.list.now (λ i. omega (arith, c.type_inv.list i)))
           c.in-Moves.is _ _ _ c.step-m.ensures sized c.step-m.auto.cells,
