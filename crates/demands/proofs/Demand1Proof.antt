@@ -102,19 +102,23 @@ module _ (m : MachineKind) (ps table choices : List ℕ) (limit : ℕ) where
 module _ (table : List ℕ) (size : ℕ) where
   plain-checks : Checked (table_numbers ++ buffer_numbers) (lines_of table) (run_checks plain [] table size)
   unfolding run_checks
-  plain-checks = checked-then table_numbers buffer_numbers _ (table_check plain table) _ (table-checked plain table) (size-checked size (cell_count plain) _)
+  plain-checks = checked-then table_numbers buffer_numbers (lines_of table) (table_check plain table) (size_check size (cell_count plain))
+      (table-checked plain table) (size-checked size (cell_count plain) (lines_of table))
 
   write-checks : Checked (table_numbers ++ buffer_numbers) (lines_of table) (write_check table size)
   unfolding write_check
-  write-checks = checked-then table_numbers buffer_numbers _ (table_check plain table) _ (table-checked plain table) (size-checked size 22016 _)
+  write-checks = checked-then table_numbers buffer_numbers (lines_of table) (table_check plain table) (size_check size 22016)
+      (table-checked plain table) (size-checked size 22016 (lines_of table))
 
   module _ (ps : List ℕ) where
     pair-checks : (m : MachineKind) (stated : ℕ)
         → Checked (table_numbers ++ (pair_numbers ++ buffer_numbers)) (lines_of table)
         (and_then (table_check m table) (and_then (places_check ps) (size_check size stated)))
     pair-checks m stated =
-        checked-then table_numbers (pair_numbers ++ buffer_numbers) _ (table_check m table) _ (table-checked m table)
-        (checked-then pair_numbers buffer_numbers _ (places_check ps) _ (places-checked ps _) (size-checked size stated _))
+        checked-then table_numbers (pair_numbers ++ buffer_numbers) (lines_of table) (table_check m table)
+        (and_then (places_check ps) (size_check size stated)) (table-checked m table)
+        (checked-then pair_numbers buffer_numbers (lines_of table) (places_check ps) (size_check size stated)
+        (places-checked ps (lines_of table)) (size-checked size stated (lines_of table)))
 
     reduced-checks : Checked (table_numbers ++ (pair_numbers ++ buffer_numbers)) (lines_of table) (run_checks reduced ps table size)
     unfolding run_checks
@@ -137,8 +141,9 @@ continue-plain table s =
     let last = record_check plain [] (table_of table) s in
     let sized = size-checked (length s.cells) (cell_count plain) (lines_of table) in
     rw (then-again (table_check plain table) size last)
-    (checked-then table_numbers (buffer_numbers ++ record_numbers) _ (table_check plain table) _ (table-checked plain table)
-    (checked-then buffer_numbers record_numbers _ size _ sized (record-checked plain [] (table_of table) s _)))
+    (checked-then table_numbers (buffer_numbers ++ record_numbers) (lines_of table) (table_check plain table) (and_then size last)
+    (table-checked plain table)
+    (checked-then buffer_numbers record_numbers (lines_of table) size last sized (record-checked plain [] (table_of table) s (lines_of table))))
 
 continue-reduced : (ps table : List ℕ) (s : State) → Checked (table_numbers ++ (pair_numbers ++ (buffer_numbers ++ record_numbers))) (lines_of table)
     (and_then (run_checks reduced ps table (length s.cells)) (record_check reduced ps (table_of table) s))
@@ -148,9 +153,11 @@ continue-reduced ps table s =
     let last = record_check reduced ps (table_of table) s in
     let sized = size-checked (length s.cells) (cell_count reduced) (lines_of table) in
     rw (then-again (table_check reduced table) (and_then (places_check ps) size) last, then-again (places_check ps) size last)
-    (checked-then table_numbers (pair_numbers ++ (buffer_numbers ++ record_numbers)) _ (table_check reduced table) _ (table-checked reduced table)
-    (checked-then pair_numbers (buffer_numbers ++ record_numbers) _ (places_check ps) _ (places-checked ps _)
-    (checked-then buffer_numbers record_numbers _ size _ sized (record-checked reduced ps (table_of table) s _))))
+    (checked-then table_numbers (pair_numbers ++ (buffer_numbers ++ record_numbers)) (lines_of table) (table_check reduced table)
+    (and_then (places_check ps) (and_then size last)) (table-checked reduced table)
+    (checked-then pair_numbers (buffer_numbers ++ record_numbers) (lines_of table) (places_check ps) (and_then size last)
+    (places-checked ps (lines_of table))
+    (checked-then buffer_numbers record_numbers (lines_of table) size last sized (record-checked reduced ps (table_of table) s (lines_of table)))))
 
 -- ---- files
 abbrev Listed : List Number → List ℕ → ℕ → Read → Type 0
@@ -256,7 +263,7 @@ module _ (ps : List ℕ) (limit : ℕ) (file : List ℕ) where
   unfolding table_said
   table-right P same =
       go (and_then (table_check plain P) (places_check ps)) refl
-      (checked-then table_numbers pair_numbers _ (table_check plain P) _ (table-checked plain P) (places-checked ps _))
+      (checked-then table_numbers pair_numbers (lines_of P) (table_check plain P) (places_check ps) (table-checked plain P) (places-checked ps (lines_of P)))
     where
       go : (v : Verdict) → and_then (table_check plain P) (places_check ps) ≡ v → Checked (table_numbers ++ pair_numbers) (lines_of P) v
           → PairRight file limit (pair_said_by v (lines_said ps limit P))

@@ -85,7 +85,7 @@ table-checked m w = go (eqb (length w % 4) 0)
 
     go : (b : Bool) → Checked table_numbers (length w / 4) (if b then first_refusal found order else Refused 4 0)
     go true =
-        checked-more _ (map (counted at_line) order) (length w / 4) (first_refusal found order)
+        checked-more (counted at_start 4) (map (counted at_line) order) (length w / 4) (first_refusal found order)
         (lines-checked found (length w / 4) (λ k i e. let h = first_below (length w / 4) (breaks k m (table_of w)) 0 i e in omega arith) order)
     go false = inl (refl, omega arith)
 
