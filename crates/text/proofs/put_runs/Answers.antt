@@ -10,10 +10,10 @@ pub returns-clause-puts : goal.returns-clause-puts
 unfolding bytes tab listed pair_text
 returns-clause-puts c =
     let g = c.args in then-put c.put_word-a.ensures
-          (then-put c.put_run-b.ensures.puts
-          (then-put c.put_word-c.ensures
-          (then-put c.put_run-d.ensures.puts
-          (then-put c.put_part-e.ensures.puts c.put_word.ensures))))
+    (then-put c.put_run-b.ensures.puts
+    (then-put c.put_word-c.ensures
+    (then-put c.put_run-d.ensures.puts
+    (then-put c.put_part-e.ensures.puts c.put_word.ensures))))
 
 pub returns-clause-pair_len_bound : goal.returns-clause-pair_len_bound
 unfolding bytes tab listed pair_text
