@@ -1,12 +1,13 @@
 #!/usr/bin/env python3
 """Turns the edits of crates/*/must-fail to the spelling of today's Rattle.
 
-usage: python3 tools/edits.py [-v]     at the top of the repository, once, after /opt/rattle/port/port.py and tools/respell.py
+usage: python3 tools/edits.py [-v]     at the top of the repository, once, after port.py of the Rattle kit and tools/respell.py
 
 Each edit is read as it stood before the port (BEFORE). The line of the old file that it changes is turned, with and without the change; where the
 turned line stands in today's file, the edit names the turned texts, and if these do not stand there once, what differs of the two lines.
 What the rules do not turn is written out in BY_HAND: pairs of a file, an old text and a new text, for each edit named there.
 An edit that comes to nothing is printed, and its file stays as it was.
+It has run: nine edits were written in other words after it (docs/PORT.md), and another run would undo that.
 """
 
 import os
