@@ -67,7 +67,8 @@ def misfit(crate, name):
         # the words of the file as it was, and of the imports as they are now
         uses = re.findall(r"^\s*(?:pub |ghost )*use .*$", texts[path], flags=re.M)
         known = words(re.sub(r"^\s*(--|//).*$", "", was[path], flags=re.M)) | words("\n".join(uses))
-        bound = {w for found in BOUND.findall(new) for part in found for w in part.split()}
+        # what any pair of the edit binds in this file
+        bound = {w for other, _, text in pairs if other == path for found in BOUND.findall(text) for part in found for w in part.split()}
         bare = re.sub(r"(?<=[\w)])\.[a-z]\w*|::\w+", "", new)
         lacking = words(bare) - known - bound - FREE - (RUST if path.endswith(".rt") else set())
         if lacking:
