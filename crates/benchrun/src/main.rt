@@ -21,10 +21,10 @@ ghost use Rattle.std.specs.Prelude.{◌≤◌};
 use lists::word_or_zero;
 use machine::Machine;
 use record_words::{put_at, put_record, record_of};
-use runs::Answered;
+use runs::Ran;
 use std::io::{Read, Write};
-use table::Verdict;
-use wire::{head_of, send_words, size, word};
+use table::Refusal;
+use wire::{head_of, refused_head, send_words, size, word};
 
 // The bytes and words of the longest message.
 const ROOM: usize = 262144;
@@ -86,8 +86,7 @@ fn asked_by(w: &[u32]) -> Asked {
 
 // Puts the length of an answer and its head in front; so many bytes follow them.
 fn put_head(out: &mut [u32], head: [u32; 8], bytes: u32) {
-    let length = [bytes.wrapping_add(32)];
-    put_at(out, 0, &length);
+    put_at(out, 0, &[bytes.wrapping_add(32)]);
     put_at(out, 1, &head);
 }
 
@@ -101,16 +100,12 @@ fn send<W: Write>(to: &mut W, out: &mut [u32], head: [u32; 8], n: usize) -> bool
     if out.len() < end {
         return false;
     }
-    send_words(to, &out[..end])
+    send_words(to, &out[..end]).is_ok()
 }
 
-fn refusal(number: u32, place: u32) -> [u32; 8] {
-    [number, place, 0, 0, 0, 0, 0, 0]
-}
-
-// The place of a refusal as a word.
-fn place_word(place: usize) -> u32 {
-    (place % 4294967296) as u32
+// Sends the head of a refusal.
+fn send_refusal<W: Write>(to: &mut W, out: &mut [u32], r: Refusal) -> bool {
+    send(to, out, refused_head(r), 0)
 }
 
 fn count(n: u32) -> [u32; 8] {
@@ -123,36 +118,25 @@ fn read<W: Write>(to: &mut W, s: &[u8], out: &mut [u32]) -> bool {
     if out.len() < TABLE_END {
         return false;
     }
-    let r = file::read_file(s, &mut out[BODY..TABLE_END]);
-    match r {
-        file::Read::Refused(number, place) => send(to, out, refusal(number, place), 0),
-        file::Read::Lines(n) => send(to, out, count(n), 4 * size(n)),
+    match file::read_file(s, &mut out[BODY..TABLE_END]) {
+        Ok(n) => send(to, out, count(n), 4 * size(n)),
+        Err(r) => send_refusal(to, out, r),
     }
 }
 
 // Sends a head and the first n bytes of a file.
 fn send_file<W: Write>(to: &mut W, out: &mut [u32], lent: &[u8], n: u32) -> bool {
-    let end = size(n);
-    if lent.len() < end {
-        return false;
-    }
     put_head(out, count(n), n);
-    if out.len() < BODY {
+    let (Some(head), Some(bytes)) = (out.get(..BODY), lent.get(..size(n))) else {
         return false;
-    }
-    send_words(to, &out[..BODY]) && to.write_all(&lent[..end]).is_ok()
+    };
+    send_words(to, head).is_ok() && to.write_all(bytes).is_ok()
 }
 
 fn write<W: Write>(to: &mut W, t: &[u32], out: &mut [u32], lent: &mut [u8]) -> bool {
-    let w = file::write_file(t, lent);
-    match w {
-        file::Written::Refused(number, place) => send(
-            to,
-            out,
-            refusal(number, place_word(place)),
-            0,
-        ),
-        file::Written::Bytes(n) => send_file(to, out, lent, n),
+    match file::write_file(t, lent) {
+        Ok(n) => send_file(to, out, lent, n),
+        Err(r) => send_refusal(to, out, r),
     }
 }
 
@@ -167,10 +151,9 @@ fn reduce<W: Write>(to: &mut W, q: Asked, t: &[u32], out: &mut [u32]) -> bool {
     if out.len() < end {
         return false;
     }
-    let v = reduction::reduce_table(t, q.c1, q.c2, &mut out[BODY..end]);
-    match v {
-        Verdict::Refused(number, place) => send(to, out, refusal(number, place_word(place)), 0),
-        Verdict::Passes => send(to, out, count(0), n),
+    match reduction::reduce_table(t, q.c1, q.c2, &mut out[BODY..end]) {
+        Ok(()) => send(to, out, count(0), n),
+        Err(r) => send_refusal(to, out, r),
     }
 }
 
@@ -196,12 +179,12 @@ fn cells_of(what: u32) -> usize
 
 // Puts words into the cells, and 0 into those past them.
 fn put_cells(cells: &mut [u32], words: &[u32]) {
-    for i in 0..cells.len() {
-        cells[i] = word_or_zero(words, i);
+    for (i, cell) in cells.iter_mut().enumerate() {
+        *cell = word_or_zero(words, i);
     }
 }
 
-fn fresh(q: Asked, t: &[u32], list: &[u32], cells: &mut [u32]) -> Answered {
+fn fresh(q: Asked, t: &[u32], list: &[u32], cells: &mut [u32]) -> Result<Ran, Refusal> {
     if is_reduced(q.what) {
         return runs::run_reduced(t, q.c1, q.c2, cells, list, q.limit);
     }
@@ -209,7 +192,13 @@ fn fresh(q: Asked, t: &[u32], list: &[u32], cells: &mut [u32]) -> Answered {
 }
 
 // A run from the record and the cells in a message on.
-fn continued(q: Asked, t: &[u32], list: &[u32], kept: &[u32], cells: &mut [u32]) -> Answered {
+fn continued(
+    q: Asked,
+    t: &[u32],
+    list: &[u32],
+    kept: &[u32],
+    cells: &mut [u32],
+) -> Result<Ran, Refusal> {
     let r = record_of(kept);
     put_cells(cells, record_words::from(kept, record_words::WORDS));
     if is_reduced(q.what) {
@@ -218,7 +207,7 @@ fn continued(q: Asked, t: &[u32], list: &[u32], kept: &[u32], cells: &mut [u32])
     runs::continue_plain(r, t, cells, q.limit)
 }
 
-fn ran(q: Asked, t: &[u32], list: &[u32], kept: &[u32], cells: &mut [u32]) -> Answered {
+fn ran(q: Asked, t: &[u32], list: &[u32], kept: &[u32], cells: &mut [u32]) -> Result<Ran, Refusal> {
     if is_continued(q.what) {
         return continued(q, t, list, kept, cells);
     }
@@ -229,25 +218,20 @@ fn ran(q: Asked, t: &[u32], list: &[u32], kept: &[u32], cells: &mut [u32]) -> An
 fn shown(q: Asked) -> usize
     ensures { result ≤ 4128 }
 {
-    let n = cells_of(q.what);
-    if q.wanted < n {
-        return q.wanted;
-    }
-    n
+    cells_of(q.what).min(q.wanted)
 }
 
 // Sends what a run came to, its record and its cells, which stand in their place.
-fn send_run<W: Write>(to: &mut W, q: Asked, a: Answered, out: &mut [u32]) -> bool {
-    let v = a.verdict;
-    let Verdict::Passes = v else {
-        return send(to, out, head_of(a), 0);
+fn send_run<W: Write>(to: &mut W, q: Asked, answer: Result<Ran, Refusal>, out: &mut [u32]) -> bool {
+    let ran = match answer {
+        Ok(ran) => ran,
+        Err(r) => return send_refusal(to, out, r),
     };
-    let r = a.ran;
     if out.len() < CELLS_AT {
         return false;
     }
-    put_record(&mut out[BODY..CELLS_AT], r.record);
-    send(to, out, head_of(a), record_words::WORDS + shown(q))
+    put_record(&mut out[BODY..CELLS_AT], ran.record);
+    send(to, out, head_of(answer), record_words::WORDS + shown(q))
 }
 
 fn run_in<W: Write>(
@@ -316,10 +300,9 @@ fn run_file<W: Write>(to: &mut W, s: &[u8], words: &mut [u32], out: &mut [u32]) 
     if words.len() < TABLE || s.len() < HEAD_BYTES {
         return false;
     }
-    let r = file::read_file(&s[HEAD_BYTES..], &mut words[..TABLE]);
-    match r {
-        file::Read::Refused(number, place) => send(to, out, refusal(number, place), 0),
-        file::Read::Lines(n) => run_first(to, asked_of_file(s), words, 4 * size(n), out),
+    match file::read_file(&s[HEAD_BYTES..], &mut words[..TABLE]) {
+        Ok(n) => run_first(to, asked_of_file(s), words, 4 * size(n), out),
+        Err(r) => send_refusal(to, out, r),
     }
 }
 
@@ -335,8 +318,8 @@ fn choose<W: Write>(to: &mut W, q: Asked, t: &[u32], out: &mut [u32]) -> bool {
         return false;
     }
     let mut cells = [0u32; Machine::PLAIN_CELLS];
-    let a = choices::write_choices(t, q.c1, q.c2, &mut cells, &mut out[BODY..end], q.limit);
-    let head = head_of(a);
+    let answer = choices::write_choices(t, q.c1, q.c2, &mut cells, &mut out[BODY..end], q.limit);
+    let head = head_of(answer);
     send(to, out, head, size(head[USED]))
 }
 
@@ -344,8 +327,7 @@ fn choose<W: Write>(to: &mut W, q: Asked, t: &[u32], out: &mut [u32]) -> bool {
 
 // What is asked of a table alone.
 fn of_table<W: Write>(to: &mut W, q: Asked, t: &[u32], out: &mut [u32], lent: &mut [u8]) -> bool {
-    let what = q.what;
-    match what {
+    match q.what {
         1 => write(to, t, out, lent),
         2 => reduce(to, q, t, out),
         7 => choose(to, q, t, out),
@@ -359,8 +341,7 @@ fn of_body<W: Write>(to: &mut W, q: Asked, body: &[u32], out: &mut [u32], lent: 
     if body.len() < n {
         return false;
     }
-    let what = q.what;
-    if 3 <= what && what <= 6 {
+    if (3..=6).contains(&q.what) {
         return run(to, q, &body[..n], &body[n..], out);
     }
     if body.len() != n {
@@ -389,6 +370,21 @@ fn filled<W: Write>(
     answer_words(to, words, out, lent)
 }
 
+// Answers a message of whole words.
+fn in_words<W: Write>(
+    to: &mut W,
+    s: &[u8],
+    words: &mut [u32],
+    out: &mut [u32],
+    lent: &mut [u8],
+) -> bool {
+    let n = s.len() / 4;
+    if s.len() % 4 != 0 || words.len() < n {
+        return false;
+    }
+    filled(to, &mut words[..n], s, out, lent)
+}
+
 // Answers a message: whether it fits, and the answer was written.
 fn answer<W: Write>(
     to: &mut W,
@@ -400,21 +396,11 @@ fn answer<W: Write>(
     if s.len() < HEAD_BYTES {
         return false;
     }
-    let what = word(s, 0);
-    if what == 0 {
-        return read(to, &s[HEAD_BYTES..], out);
+    match word(s, 0) {
+        0 => read(to, &s[HEAD_BYTES..], out),
+        8 => run_file(to, s, words, out),
+        _ => in_words(to, s, words, out, lent),
     }
-    if what == 8 {
-        return run_file(to, s, words, out);
-    }
-    let n = s.len() / 4;
-    if s.len() % 4 != 0 {
-        return false;
-    }
-    if words.len() < n {
-        return false;
-    }
-    filled(to, &mut words[..n], s, out, lent)
 }
 
 // One message: whether there was one that fits, and it was answered.
@@ -426,11 +412,9 @@ fn next<R: Read, W: Write>(
     out: &mut [u32],
     lent: &mut [u8],
 ) -> bool {
-    let m = wire::next_message(from, room);
-    if !m.there {
+    let Some(n) = wire::next_message(from, room) else {
         return false;
-    }
-    let n = m.bytes;
+    };
     answer(to, &room[..n], words, out, lent)
 }
 

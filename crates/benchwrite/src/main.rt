@@ -8,9 +8,10 @@ ghost use Rattle.std.specs.Prelude.{◌≤◌};
 
 use lists::word_or_zero;
 use machine::Machine;
-use runs::Answered;
-use std::io::Write;
-use wire::{head_of, send_words, size};
+use runs::Ran;
+use std::io::{self, Write};
+use table::Refusal;
+use wire::{head_of, next_message, put_words, send_words};
 
 // The bytes and words of the longest message.
 const ROOM: usize = 262144;
@@ -44,27 +45,25 @@ fn asked_by(w: &[u32]) -> Asked {
         c1: word_or_zero(w, 1),
         c2: word_or_zero(w, 2),
         limit: word_or_zero(w, 3),
-        room: size(word_or_zero(w, 5)),
+        room: word_or_zero(w, 5) as usize,
     }
 }
 
 // Sends what the writer came to, and the numbers.
-fn send<W: Write>(to: &mut W, a: Answered, list: &[u32]) {
-    let head = head_of(a);
-    let n = size(head[USED]);
-    if list.len() < n {
-        return;
-    }
-    if send_words(to, &head) {
-        send_words(to, &list[..n]);
-    }
+fn send<W: Write>(to: &mut W, answer: Result<Ran, Refusal>, list: &[u32]) -> io::Result<()> {
+    let head = head_of(answer);
+    let Some(numbers) = list.get(..head[USED] as usize) else {
+        return Ok(());
+    };
+    send_words(to, &head)?;
+    send_words(to, numbers)
 }
 
 // The choices, into a lent list.
 fn write<W: Write>(to: &mut W, q: Asked, t: &[u32], list: &mut [u32]) {
     let mut cells = [0u32; Machine::PLAIN_CELLS];
-    let a = choices::write_choices(t, q.c1, q.c2, &mut cells, list, q.limit);
-    send(to, a, list);
+    let answer = choices::write_choices(t, q.c1, q.c2, &mut cells, list, q.limit);
+    let _ = send(to, answer, list);
 }
 
 // The same, in the first n numbers of a longer list.
@@ -130,7 +129,7 @@ fn answer<W: Write>(to: &mut W, w: &[u32]) {
         return;
     }
     let t = &w[HEAD..];
-    if word_or_zero(w, 0) != 7 || size(word_or_zero(w, 4)) != t.len() {
+    if word_or_zero(w, 0) != 7 || word_or_zero(w, 4) as usize != t.len() {
         return;
     }
     lend(to, asked_by(w), t, 2);
@@ -138,7 +137,7 @@ fn answer<W: Write>(to: &mut W, w: &[u32]) {
 
 // Puts the words of a message into a lent buffer, and answers.
 fn filled<W: Write>(to: &mut W, words: &mut [u32], s: &[u8]) {
-    wire::put_words(words, s);
+    put_words(words, s);
     answer(to, words);
 }
 
@@ -156,9 +155,7 @@ fn words_of<W: Write>(to: &mut W, s: &[u8]) {
 
 fn main(rt: HostRuntime) {
     let mut room = [0u8; ROOM];
-    let m = wire::next_message(&mut rt.stdin(), &mut room);
-    let n = m.bytes;
-    if m.there {
+    if let Some(n) = next_message(&mut rt.stdin(), &mut room) {
         words_of(&mut rt.stdout(), &room[..n]);
     }
 }

@@ -86,8 +86,8 @@ module _ (own map : List ℕ) (P : Procedures own map) (stack : List ℕ) (here 
 
     vars : (bases : List ℕ)
         → own_vars own ns' bases
-        ≡ set (handed_over (own_vars own ns bases) (locals_at (own_table own) here) (locals_at (own_table own) back) (λ i. get_or (last_of own stack).locals i 0))
-        into (Uint x)
+        ≡ set (handed_over (own_vars own ns bases) (locals_at (own_table own) here) (locals_at (own_table own) back)
+        (λ i. get_or (last_of own stack).locals i 0)) into (Uint x)
     vars bases =
         let size = length-handed own P.decls from upon left next ns moved.size words refl in
         rw (moved.then, moved.before, variable, ← same-held, ← same-given)

@@ -18,7 +18,7 @@ use Rattle.model.specs.Class.{pair}
 use Rattle.model.specs.Table.{Table, Line, is_node, line_count, line_at, node_at, row_at, row_kind, opens_procedure, at_end, marked_pointer}
 use Rattle.model.specs.State.{MachineKind, State}
 use Rattle.model.specs.State.MachineKind.{plain}
-use Rattle.model.specs.Step.{Move, Report, finished, step}
+use Rattle.model.specs.Step.{Report, finished, step}
 use Rattle.model.specs.Step.End.{done, list_full}
 use Rattle.model.specs.Step.Report.{ended}
 use Rattle.model.specs.Accepted.{Accepted, CanHave, known}
@@ -34,8 +34,8 @@ use Rattle.prepared.specs.Own.{Own, own_table, places_of}
 use Rattle.prepared.specs.Same.{Same}
 use Rattle.prepared.proofs.SameLaws.{own_same}
 use Rattle.evaluators.specs.CodeAnswers.{failed}
-use Rattle.evaluators.specs.declared.answers.Failure.{Failure}
-use Rattle.evaluators.specs.declared.answers.Failure.TheVariants.{Fails, BadChoice, NoChoice, Stuck}
+use Rattle.machine.specs.declared.Failure.{Failure}
+use Rattle.machine.specs.declared.Failure.TheVariants.{Fails, BadChoice, NoChoice, Stuck}
 use Rattle.machine.specs.declared.Machine.{Machine}
 use Rattle.machine.specs.declared.Worked.{Worked}
 use Rattle.machine.specs.declared.Worked.TheVariants.{Moves, Ends, Not}
@@ -153,7 +153,7 @@ module _ (t : List ℕ) (f : Frame) (own : List ℕ) (O : Own t f own) (m : Mach
       only-fails NoChoice n e = absurd (subst TakesChoices kind-plain (held NoChoice n e))
       only-fails Stuck n e = absurd (held Stuck n e)
 
-      pub reached : (w : Worked) {out : List ℕ} {p : Pushed}
+      pub reached : (w : Worked) {out : List ℕ} {p : Pushed ℕ}
           → step (places_of own) (own_table own) (own_state own stack m cells) [] ≡ move_out own stack m cells [] w → ReachedMove w out p
           → pushed out (count_of w) ≡ p
       unfolding ReachedMove ReachedBy

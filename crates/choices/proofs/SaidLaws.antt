@@ -8,8 +8,10 @@ use lib.ListN.{length, take, drop, replicate, take-append-drop}
 use lib.Seq.{length-take-le}
 use Rattle.choices.specs.Ends.{report_of}
 use Rattle.runs.specs.CodeSteps.{Lends}
-use Rattle.table.specs.declared.Verdict.{Verdict}
-use Rattle.table.specs.declared.Verdict.TheVariants.{Passes, Refused}
+use Rattle.std.specs.Prelude.{Ok, Err}
+use Rattle.table.specs.declared.verdict.Refusal.{Refusal}
+use Rattle.table.specs.Verdict.{Verdict, refused_as}
+use Rattle.table.specs.Verdict.Verdict.{Passes, Refused}
 use Rattle.table.specs.Checks.{table_check, and_then, size_check}
 use Rattle.line_checks.specs.Rules.{depth, most_depth}
 use Rattle.table.proofs.Passing.{passing, both-pass, node-depth}
@@ -29,7 +31,6 @@ use Rattle.machine.specs.CodeFresh.{fresh_machine, fresh_record}
 use Rattle.runs.specs.Checks.{frame_of, run_checks}
 use Rattle.runs.proofs.LendLaws.{lends, ready-fresh, state-fresh}
 use Rattle.runs.specs.declared.Ran.{Ran}
-use Rattle.runs.specs.declared.Answered.{Answered}
 use Rattle.choices.specs.CodeSteps.{Begins, Writes, WriterWrites}
 use Rattle.choices.specs.Checks.{writer_checks}
 use Rattle.choices.specs.Answers.{said_of, wrote_said, writer_said}
@@ -113,15 +114,14 @@ module _ (t cells₀ : List ℕ) (c1 c2 : ℕ) {v : Verdict} (q : v ≡ writer_c
         ∙ ap (λ (g : Frame). writer (pair g.c1 g.c2) (table_of t) limit 0 [] (fresh [] plain (table_of t)) room) i
 
     -- what the loop handed back
-    pub said-writes : (list₀ : List ℕ) (limit : ℕ) {list cells' : List ℕ} {a : Answered} {r : Ran} → a.verdict ≡ Passes → a.ran ≡ r
-        → WriterWrites t f m cells list₀ limit r cells' list
-        → said_of t (frame_of t false c1 c2) a cells' list ≡ writer_said (pair c1 c2) t cells₀ list₀ limit
+    pub said-writes : (list₀ : List ℕ) (limit : ℕ) {list cells' : List ℕ} {r : Ran} → WriterWrites t f m cells list₀ limit r cells' list
+        → said_of t (frame_of t false c1 c2) (Ok r) cells' list ≡ writer_said (pair c1 c2) t cells₀ list₀ limit
     unfolding writer_said
-    said-writes list₀ limit {list} {cells'} {a} {r} u w W =
-        let here : said_of t (frame_of t false c1 c2) a cells' list ≡ writes (report_of t f r cells' list) r.used list = rw (u, w, i) in
+    said-writes list₀ limit {list} {cells'} {r} W =
+        let here : said_of t (frame_of t false c1 c2) (Ok r) cells' list ≡ writes (report_of t f r cells' list) r.used list = rw i in
         here ∙ written-said t f r cells' list list₀ _ W ∙ ap (wrote_said list₀) (writer-is limit (length list₀)) ∙ rw (← q, p)
 
-pub said-refused : (t cells list : List ℕ) (c1 c2 limit : ℕ) {v : Verdict} → v ≡ writer_checks (pair c1 c2) t (length cells) → {number place : ℕ}
-    → v ≡ Refused number place → (a : Answered) → a.verdict ≡ v → said_of t (frame_of t false c1 c2) a cells list ≡ writer_said (pair c1 c2) t cells list limit
+pub said-refused : (t cells list : List ℕ) (c1 c2 limit : ℕ) (e : Refusal) → refused_as e ≡ writer_checks (pair c1 c2) t (length cells)
+    → said_of t (frame_of t false c1 c2) (Err e) cells list ≡ writer_said (pair c1 c2) t cells list limit
 unfolding writer_said
-said-refused t cells list c1 c2 limit q e a w = rw (w, ← q, e)
+said-refused t cells list c1 c2 limit e q = rw (← q)

@@ -6,7 +6,7 @@ use Prim.Native.Nat.{ℕ, zero, suc, ◌+◌, ◌-◌, ◌≤◌, ◌<◌}
 use native.Mathlib.Omega.{arith}
 use native.Mathlib.Numerals.{add-one}
 use mathlib.Core.Bool.{Bool, true, false}
-use mathlib.Core.List.{List, [], ◌∷◌, ◌++◌, append_assoc, append-nil}
+use mathlib.Core.List.{List, [], ◌++◌, append_assoc, append-nil}
 use lib.ListN.{length, take, drop}
 use lib.Seq.{paste, take-paste, drop-paste, length-paste, take-append_seam, drop-drop}
 use borrow.Author.Tests.{le-leb, lt-leb}
@@ -26,8 +26,8 @@ use Rattle.prepared.specs.declared.Frame.{Frame}
 use Rattle.prepared.specs.View.{places, kind_of, table_for}
 use Rattle.prepared.specs.Own.{Own, own_table, places_of}
 use Rattle.evaluators.specs.CodeAnswers.{failed}
-use Rattle.evaluators.specs.declared.answers.Failure.{Failure}
-use Rattle.evaluators.specs.declared.answers.Failure.TheVariants.{Fails, BadChoice, NoChoice, Stuck}
+use Rattle.machine.specs.declared.Failure.{Failure}
+use Rattle.machine.specs.declared.Failure.TheVariants.{Fails, BadChoice, NoChoice, Stuck}
 use Rattle.evaluators.proofs.ViewLaws.{count-arrays}
 use Rattle.machine.specs.declared.Machine.{Machine}
 use Rattle.machine.specs.declared.Move.{Move}
@@ -243,11 +243,11 @@ module _ {t own lent : List ℕ} {limit : ℕ} {m₀ : Machine} {stack₀ cs₀ 
         ∙ push-fits xs buffer 0 (let h = few in let s = K.sized in omega arith)
 
     count-is : n ≡ length xs
-    count-is = ap (λ (p : Pushed). p.at) exact ∙ (let z : 0 + length xs ≡ length xs = omega arith in z)
+    count-is = ap (λ (p : Pushed ℕ). p.at) exact ∙ (let z : 0 + length xs ≡ length xs = omega arith in z)
 
     taken : take n numbers ≡ xs
     taken =
-        ap (λ (k : ℕ). take k numbers) count-is ∙ ap (λ (p : Pushed). take (length xs) p.buffer) exact
+        ap (λ (k : ℕ). take k numbers) count-is ∙ ap (λ (p : Pushed ℕ). take (length xs) p.buffer) exact
         ∙ take-append_seam xs (drop (0 + length xs) buffer)
 
     pub few-numbers : n ≤ length numbers

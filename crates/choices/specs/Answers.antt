@@ -1,13 +1,14 @@
 -- What the choice writer says to the user.
-use Rattle.std.specs.Prelude.{ℕ, List, [], ◌++◌, length, drop}
+use Rattle.std.specs.Prelude.{ℕ, List, [], ◌++◌, length, drop, Result, Ok, Err}
 use Rattle.choices.specs.Ends.{report_of}
-use Rattle.table.specs.declared.Verdict.{Verdict}
-use Rattle.table.specs.declared.Verdict.TheVariants.{Passes, Refused}
+use Rattle.table.specs.declared.verdict.Refusal.{Refusal}
+use Rattle.table.specs.Verdict.{Verdict, check_number}
+use Rattle.table.specs.Verdict.Verdict.{Passes, Refused}
 use Rattle.model.specs.Step.{Report}
 use Rattle.model.specs.Step.Report.{ended, no_end}
 use Rattle.model.specs.Demand3.{writer_run}
 use Rattle.prepared.specs.declared.Frame.{Frame}
-use Rattle.runs.specs.declared.Answered.{Answered}
+use Rattle.runs.specs.declared.Ran.{Ran}
 use Rattle.choices.specs.Checks.{writer_checks}
 
 -- a refusal, with its number and place, the cells and the list at exit; or a report, which has end, steps, the record, the cells at exit and
@@ -22,8 +23,9 @@ said_by Passes cells list said = said
 said_by (Refused number place) cells list said = refusal number place cells list
 
 -- an answer, with the cells and the list at exit
-abbrev pub said_of : List ℕ → Frame → Answered → List ℕ → List ℕ → Said
-said_of t f a cells list = said_by a.verdict cells list (writes (report_of t f a.ran cells list) a.ran.used list)
+abbrev pub said_of : List ℕ → Frame → Result Ran Refusal → List ℕ → List ℕ → Said
+said_of t f (Ok ran) cells list = writes (report_of t f ran cells list) ran.used list
+said_of t f (Err refused) cells list = refusal (check_number refused.check) refused.place cells list
 
 -- the numbers of the writer's report
 abbrev pub numbers_of : Report → List ℕ

@@ -1,6 +1,6 @@
 -- What the choice writer checks of what it is lent.
 use Rattle.std.specs.Prelude.{ℕ, List}
-use Rattle.table.specs.declared.Verdict.{Verdict}
+use Rattle.table.specs.Verdict.{Verdict}
 use Rattle.table.specs.Checks.{table_check, and_then, size_check}
 use Rattle.model.specs.State.{cell_count}
 use Rattle.model.specs.State.MachineKind.{plain}

@@ -1,6 +1,6 @@
 -- Demand 3, said of the public definitions: the checks, the reduction, both runs and the choice writer. Proved in proofs/Demand3Proof.
 use Rattle.std.specs.Prelude.{◌≡◌, ◌≢◌, ℕ, ◌^◌, ◌<◌, ◌≤◌, false, List, [], ◌++◌, length, drop}
-use Rattle.table.specs.declared.Verdict.TheVariants.{Passes}
+use Rattle.table.specs.Verdict.Verdict.{Passes}
 use Rattle.table.specs.Checks.{table_check}
 use Rattle.model.specs.Table.{table_of, most}
 use Rattle.model.specs.State.{State, cell_count}

@@ -8,29 +8,24 @@ mod steps;
 ghost use Rattle.std.specs.Prelude.{◌≡◌, false, length};
 ghost use Rattle.model.specs.Class.{pair};
 ghost use Rattle.runs.specs.Checks.{frame_of};
+ghost use Rattle.table.specs.Verdict.{verdict_of};
 ghost use Rattle.choices.specs.Checks.{writer_checks};
 ghost use Rattle.choices.specs.Answers.{said_of, writer_said};
 
 use machine::steps::zero_all;
 use machine::{Machine, Record};
 use reduction::check_pair;
-use runs::Answered;
-use runs::checks::{check_size, frame_of, refused};
+use runs::Ran;
+use runs::checks::{check_size, frame_of};
 use steps::write_steps;
-use table::{Verdict, check_table};
+use table::{Refusal, check_table};
 
 // The table's checks, 13 and 14, in that order.
-fn check_writer(t: &[u32], cells: &[u32], c1: u32, c2: u32) -> Verdict
-    ensures { result ≡ writer_checks (pair c1 c2) t.now (length cells.now) }
+fn check_writer(t: &[u32], cells: &[u32], c1: u32, c2: u32) -> Result<(), Refusal>
+    ensures { verdict_of result ≡ writer_checks (pair c1 c2) t.now (length cells.now) }
 {
-    let table = check_table(t, false);
-    let Verdict::Passes = table else {
-        return table;
-    };
-    let pair = check_pair(c1, c2);
-    let Verdict::Passes = pair else {
-        return pair;
-    };
+    check_table(t, false)?;
+    check_pair(c1, c2)?;
     check_size(cells.len(), Machine::PLAIN_CELLS)
 }
 
@@ -42,22 +37,13 @@ pub fn write_choices(
     cells: &mut [u32],
     list: &mut [u32],
     limit: u32,
-) -> Answered
+) -> Result<Ran, Refusal>
     ensures { said_of t.now (frame_of t.now false c1 c2) result cells.new list.new
         ≡ writer_said (pair c1 c2) t.now cells.old list.old limit }
 {
-    let v = check_writer(t, cells, c1, c2);
-    let Verdict::Passes = v else {
-        return refused(v);
-    };
+    check_writer(t, cells, c1, c2)?;
     zero_all(cells);
     let f = frame_of(t, false, c1, c2);
     let r = Record::fresh(t, f);
-    let m = r.machine;
-    let stack = r.stack;
-    let ran = write_steps(m, stack, t, cells, list, f, limit);
-    Answered {
-        verdict: Verdict::Passes,
-        ran,
-    }
+    Ok(write_steps(r.machine, r.stack, t, cells, list, f, limit))
 }

@@ -11,10 +11,7 @@ fn flag_of(own: &[u32; 5256], row: u32) -> u8
     ensures { result ≡ flag_of own.now row }
 {
     let a = row_word(own, row, 1);
-    if is_marked(own, 3, a) {
-        return 1;
-    }
-    0
+    u8::from(is_marked(own, 3, a))
 }
 
 // Keeps the flag of the array that a row makes, if it makes one, at the place of the next array, if there is one.

@@ -4,13 +4,14 @@ ghost use Rattle.choices.specs.CodeSteps.{Begins, WriterWrites};
 
 use crate::marks::hold;
 use calls::{DEPTH, map_own};
+use evaluators::inputs::Inputs;
 use machine::steps::zero;
 use machine::{End, Machine, Move, Worked};
 use prepared::Frame;
 use prepared::own::lay_out;
 use recording_rows::recorded_move;
 use runs::Ran;
-use writing::{after_call, after_return, count_of, stopped, write_numbers, wrote_to};
+use writing::{after_call, after_return, count_of, stopped, write_numbers};
 
 // The steps of the writer from a fresh record on: what a row comes to is worked out with its numbers, which are written if they all fit; then
 // the change is made by the methods of a step, each in an arm of its own, since `step` is quick with one caller only.
@@ -38,29 +39,18 @@ pub fn write_steps(
     let mut steps: u32 = 0;
     while (m.row < end) | (0 < stack[DEPTH]) {
         if steps == limit {
-            return wrote_to(End::OutOfSteps, steps, at, m, stack);
+            return Ran::at_end(End::OutOfSteps, steps, at, m, stack);
         }
-        let w = recorded_move(
-            &own,
+        let inputs = Inputs {
+            own: &own,
             cells,
-            &mut numbers,
-            m.row,
-            &m.numbers,
-            &m.bases,
-            m.open,
-            &m.loop_rows,
-            &m.starts,
-            &m.ends,
-            m.count,
-            &m.firsts,
-            &m.lengths,
-            &m.shapes,
-            &held,
-            stack[DEPTH],
-        );
+            list: &[], // a plain table takes no choice
+            machine: &m,
+        };
+        let w = recorded_move(&inputs, &held, &mut numbers, stack[DEPTH]);
         let n = count_of(w);
         if list.len() - at < n {
-            return wrote_to(End::ListFull, steps, at, m, stack);
+            return Ran::at_end(End::ListFull, steps, at, m, stack);
         }
         at = write_numbers(list, at, &numbers, n);
         let Worked::Moves(change, _) = w else {
@@ -87,5 +77,5 @@ pub fn write_steps(
             Move::Returns(x) => m = after_return(m, &own, &map, &mut stack, x),
         }
     }
-    wrote_to(End::Done, steps, at, m, stack)
+    Ran::at_end(End::Done, steps, at, m, stack)
 }

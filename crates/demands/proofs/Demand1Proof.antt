@@ -12,21 +12,22 @@ use lib.Dec.{eqb, ltb}
 use Rattle.std.specs.Prelude.{if◌then◌else◌}
 use Rattle.lists.specs.Tab.{padded}
 use Rattle.lists.specs.First.{first}
-use Rattle.lists.specs.declared.Found.{Found}
-use Rattle.lists.specs.declared.Found.TheVariants.{At, Nothing}
+use Rattle.std.specs.Prelude.{Option}
+use Rattle.std.specs.Prelude.{Some, None}
 use Rattle.lists.proofs.FirstLaws.{first_below}
 use Rattle.lists.proofs.TabLaws.{length-tab, take-padded}
-use Rattle.table.specs.declared.Verdict.{Verdict}
-use Rattle.table.specs.declared.Verdict.TheVariants.{Passes, Refused}
+use Rattle.table.specs.Verdict.{Verdict}
+use Rattle.table.specs.Verdict.Verdict.{Passes, Refused}
 use Rattle.table.specs.Checks.{table_check, and_then, size_check}
 use Rattle.table.proofs.Passing.{both-pass, size-passes}
 use Rattle.table.proofs.PromiseProofs.{passes-accepted, reduction-passes}
 use Rattle.reduction.specs.Reduction.{places_check, reduce_answer, reduced_or, reduce_buffer}
-use Rattle.file.specs.declared.Read.{Read}
-use Rattle.file.specs.declared.Read.TheVariants.{Lines, Refused as NotRead}
+use Rattle.file.specs.Read.{Read}
+use Rattle.file.specs.Read.Read.{Lines, Refused as NotRead}
 use Rattle.file.specs.Word.{word_at}
 use Rattle.file.specs.Layout.{file_bytes}
-use Rattle.file.specs.Reading.{blocks, lines_in_all, wrong_length, wrong_check, wrong_block, refused_at_block, read_answer, table_words, buffer_after, read_buffer}
+use Rattle.file.specs.Reading.{blocks, lines_in_all, wrong_length, wrong_check, wrong_block, refused_at_block}
+use Rattle.file.specs.Reading.{read_answer, table_words, buffer_after, read_buffer}
 use Rattle.file.specs.Writing.{write_check, written_as, write_answer, filled_as, write_buffer}
 use Rattle.file.proofs.ReadingLaws.{accepted, lines-most}
 use Rattle.file.proofs.LayoutLaws.{length-file}
@@ -169,18 +170,19 @@ read-listed : (ns : List Number) (bytes : List ℕ) (n room : ℕ) → (eqb room
     → Listed (file_numbers ++ ns) bytes n (read_answer bytes room)
 unfolding read_answer
 read-listed ns bytes n room h =
-    go (wrong_length (length bytes)) (first (wrong_check bytes) 0 (blocks bytes)) (first (wrong_block bytes (lines_in_all bytes)) 0 (blocks bytes)) (eqb room 5248)
+    go (wrong_length (length bytes)) (first (wrong_check bytes) 0 (blocks bytes)) (first (wrong_block bytes (lines_in_all bytes)) 0 (blocks bytes))
+    (eqb room 5248)
     (first_below (blocks bytes) (wrong_check bytes) 0) (first_below (blocks bytes) (wrong_block bytes (lines_in_all bytes)) 0) h
   where
-    go : (u : Bool) (c b : Found) (r : Bool) → ((k : ℕ) → c ≡ At k → k < 0 + blocks bytes) → ((k : ℕ) → b ≡ At k → k < 0 + blocks bytes)
+    go : (u : Bool) (c b : Option ℕ) (r : Bool) → ((k : ℕ) → c ≡ Some k → k < 0 + blocks bytes) → ((k : ℕ) → b ≡ Some k → k < 0 + blocks bytes)
         → (r ≡ false → OneOf ns (blocks bytes) n 14 0)
         → Listed (file_numbers ++ ns) bytes n
         (if u then NotRead 1 0 else refused_at_block 2 c (refused_at_block 3 b (if r then Lines (lines_in_all bytes) else NotRead 14 0)))
     go true c b r hc hb h = inl (refl, omega arith)
-    go false (At k) b r hc hb h = inr (inl (refl, let l = hc k refl in omega arith))
-    go false Nothing (At k) r hc hb h = inr (inr (inl (refl, let l = hb k refl in omega arith)))
-    go false Nothing Nothing true hc hb h = tt
-    go false Nothing Nothing false hc hb h = inr (inr (inr (h refl)))
+    go false (Some k) b r hc hb h = inr (inl (refl, let l = hc k refl in omega arith))
+    go false None (Some k) r hc hb h = inr (inr (inl (refl, let l = hb k refl in omega arith)))
+    go false None None true hc hb h = tt
+    go false None None false hc hb h = inr (inr (inr (h refl)))
 
 pub read_right : (bytes words : List ℕ) → ReadRight bytes words (read_buffer bytes words) (read_answer bytes (length words))
 unfolding read_buffer

@@ -18,7 +18,7 @@ use Rattle.model.specs.State.MachineKind.{plain, reduced}
 use Rattle.model.specs.Eval.{cells_laid, rule, eval_f, eval}
 use Rattle.model.specs.Step.{finished, row_rule, step_at, step, run}
 use Rattle.model.specs.Reduce.{reduced_kind, reduce}
-use Rattle.table.specs.declared.Verdict.TheVariants.{Passes}
+use Rattle.table.specs.Verdict.Verdict.{Passes}
 use Rattle.kinds.specs.Kinds.{roles_of}
 use Rattle.line_checks.specs.Rules.{breaks5, breaks6, breaks7, breaks8, breaks9, depth, breaks10, breaks12}
 use Rattle.loop_checks.specs.Rules.{breaks11, any, shares_iterator, breaks16}

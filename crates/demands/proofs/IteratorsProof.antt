@@ -8,13 +8,13 @@ use lib.ListN.{length, take, drop, replicate, length-replicate}
 use borrow.Author.Tests.{le-ltb}
 use Rattle.lists.specs.Tab.{padded}
 use Rattle.lists.proofs.TabLaws.{take-padded}
-use Rattle.table.specs.declared.Verdict.TheVariants.{Refused}
+use Rattle.table.specs.Verdict.Verdict.{Refused}
 use Rattle.table.specs.Checks.{table_check}
 use Rattle.loop_checks.specs.Sharing.{AllDiffer, iterators_of}
 use Rattle.table.proofs.Passing.{passing, accepted}
 use Rattle.table.proofs.IteratorProofs.{apart-passes, open-differ, passing-shares-none, sharing-refused, sixteen-at-inner}
 use Rattle.reduction.specs.Reduction.{reduce_answer}
-use Rattle.file.specs.declared.Read.{Read}
+use Rattle.file.specs.Read.{Read}
 use Rattle.file.specs.Layout.{lines_in, file_bytes}
 use Rattle.file.specs.Reading.{read_buffer}
 use Rattle.file.specs.Writing.{write_check}

@@ -8,7 +8,7 @@ use mathlib.Core.Bool.{Bool, true, false}
 use mathlib.Core.List.{List}
 use borrow.Author.Tests.{lt-ltb}
 use Rattle.std.specs.Prelude.{if◌then◌else◌}
-use Rattle.table.specs.declared.Verdict.TheVariants.{Passes, Refused}
+use Rattle.table.specs.Verdict.Verdict.{Passes, Refused}
 use Rattle.table.proofs.Passing.{passing, accepted}
 use Rattle.model.specs.Class.{class, pair}
 use Rattle.model.specs.Table.{Table, table_of}

@@ -4,7 +4,7 @@ use mathlib.Core.Path.{◌≡◌, refl, sym, ap, ◌∙◌}
 use mathlib.Core.Bool.{Bool, true, false}
 use borrow.Author.Tests.{lt-ltb}
 use Rattle.std.specs.Prelude.{if◌then◌else◌}
-use Rattle.table.specs.declared.Verdict.TheVariants.{Passes, Refused}
+use Rattle.table.specs.Verdict.Verdict.{Passes, Refused}
 use Rattle.table.proofs.Passing.{passing, accepted}
 use Rattle.model.specs.Class.{pair}
 use Rattle.model.specs.Table.{table_of}

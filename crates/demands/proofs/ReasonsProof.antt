@@ -6,8 +6,8 @@ use native.Mathlib.Omega.{arith}
 use mathlib.Core.Bool.{false}
 use mathlib.Core.List.{List, [], ◌++◌}
 use lib.ListN.{length, drop}
-use Rattle.table.specs.declared.Verdict.{Verdict}
-use Rattle.table.specs.declared.Verdict.TheVariants.{Passes, Refused}
+use Rattle.table.specs.Verdict.{Verdict}
+use Rattle.table.specs.Verdict.Verdict.{Passes, Refused}
 use Rattle.model.specs.Class.{pair}
 use Rattle.model.specs.Work.{Reason}
 use Rattle.model.specs.Step.{End, Report}

@@ -11,11 +11,11 @@ use lib.Dec.{ltb, eqb}
 use borrow.Author.Tests.{lt-ltb}
 use Rattle.std.specs.Prelude.{if◌then◌else◌}
 use Rattle.lists.specs.First.{first}
-use Rattle.lists.specs.declared.Found.{Found}
-use Rattle.lists.specs.declared.Found.TheVariants.{At, Nothing}
+use Rattle.std.specs.Prelude.{Option}
+use Rattle.std.specs.Prelude.{Some, None}
 use Rattle.lists.proofs.FirstLaws.{first_below}
-use Rattle.table.specs.declared.Verdict.{Verdict}
-use Rattle.table.specs.declared.Verdict.TheVariants.{Passes, Refused}
+use Rattle.table.specs.Verdict.{Verdict}
+use Rattle.table.specs.Verdict.Verdict.{Passes, Refused}
 use Rattle.table.specs.Checks.{breaks, order, refused_at_line, first_refusal, table_check, and_then, size_check}
 use Rattle.reduction.specs.Reduction.{places_check}
 use Rattle.model.specs.Class.{accepted_places, pair}
@@ -66,21 +66,21 @@ checked-more x ns n (Refused k p) h = inr h
 
 -- ---- each check by itself
 -- those of lines, by the order in which they stand in a list
-lines-checked : (f : ℕ → Found) (n : ℕ) → ((k i : ℕ) → f k ≡ At i → i < n) → (ks : List ℕ) → Checked (map (counted at_line) ks) n (first_refusal f ks)
+lines-checked : (f : ℕ → Option ℕ) (n : ℕ) → ((k i : ℕ) → f k ≡ Some i → i < n) → (ks : List ℕ) → Checked (map (counted at_line) ks) n (first_refusal f ks)
 unfolding first_refusal
 lines-checked f n within [] = tt
 lines-checked f n within (k ∷ ks) = go (f k) refl (lines-checked f n within ks)
   where
-    go : (r : Found) → f k ≡ r → Checked (map (counted at_line) ks) n (first_refusal f ks)
+    go : (r : Option ℕ) → f k ≡ r → Checked (map (counted at_line) ks) n (first_refusal f ks)
         → Checked (map (counted at_line) (k ∷ ks)) n (refused_at_line r k (first_refusal f ks))
-    go (At i) e h = inl (refl, within k i e)
-    go Nothing e h = checked-more (counted at_line k) (map (counted at_line) ks) n (first_refusal f ks) h
+    go (Some i) e h = inl (refl, within k i e)
+    go None e h = checked-more (counted at_line k) (map (counted at_line) ks) n (first_refusal f ks) h
 
 pub table-checked : (m : MachineKind) (w : List ℕ) → Checked table_numbers (lines_of w) (table_check m w)
 unfolding table_check
 table-checked m w = go (eqb (length w % 4) 0)
   where
-    found : ℕ → Found
+    found : ℕ → Option ℕ
     found k = first (breaks k m (table_of w)) 0 (length w / 4)
 
     go : (b : Bool) → Checked table_numbers (length w / 4) (if b then first_refusal found order else Refused 4 0)

@@ -8,8 +8,8 @@ use mathlib.Core.List.{List, []}
 use lib.ListN.{length, drop, length-append, length-replicate}
 use lib.Seq.{drop-append_seam}
 use Rattle.std.specs.Prelude.{if◌then◌else◌}
-use Rattle.table.specs.declared.Verdict.{Verdict}
-use Rattle.table.specs.declared.Verdict.TheVariants.{Passes, Refused}
+use Rattle.table.specs.Verdict.{Verdict}
+use Rattle.table.specs.Verdict.Verdict.{Passes, Refused}
 use Rattle.table.specs.Checks.{table_check, and_then, size_check}
 use Rattle.table.proofs.Passing.{both-pass, passing, accepted}
 use Rattle.model.specs.Class.{accepted_places}
@@ -80,7 +80,8 @@ module _ (m : MachineKind) (ps t : List ℕ) where
   abbrev run_of : Start → List ℕ → ℕ → Report
   run_of start l limit = run places (table_of t) limit 0 (state_at start) l
 
-  said-is : (start : Start) (l : List ℕ) (limit : ℕ) → said m ps t start l limit ≡ said_by (verdict_of start) (cells_at start) (ran_said l (run_of start l limit))
+  said-is : (start : Start) (l : List ℕ) (limit : ℕ)
+      → said m ps t start l limit ≡ said_by (verdict_of start) (cells_at start) (ran_said l (run_of start l limit))
   unfolding fresh_said continued_said
   said-is (anew cells) l limit = refl
   said-is (from s) l limit = refl

@@ -2,14 +2,14 @@
 -- there; a refusal writes to none of the buffers it was lent, and each run stops by its step limit."
 -- (rules 10.1, 10.2.) Two numbers have come since: 16 and 17. Proved in proofs/Demand1Proof.
 use Rattle.std.specs.Prelude.{◌≡◌, ℕ, ◌/◌, ◌≤◌, List, [], ◌++◌, length, drop}
-use Rattle.table.specs.declared.Verdict.{Verdict}
-use Rattle.table.specs.declared.Verdict.TheVariants.{Passes, Refused}
+use Rattle.table.specs.Verdict.{Verdict}
+use Rattle.table.specs.Verdict.Verdict.{Passes, Refused}
 use Rattle.table.specs.Checks.{table_check}
 use Rattle.reduction.specs.Reduction.{places_check, reduce_answer, reduce_buffer}
-use Rattle.file.specs.declared.Read.{Read}
-use Rattle.file.specs.declared.Read.TheVariants.{Lines, Refused as NotRead}
-use Rattle.file.specs.declared.Written.{Written}
-use Rattle.file.specs.declared.Written.TheVariants.{Bytes, Refused as NotWritten}
+use Rattle.file.specs.Read.{Read}
+use Rattle.file.specs.Read.Read.{Lines, Refused as NotRead}
+use Rattle.file.specs.Written.{Written}
+use Rattle.file.specs.Written.Written.{Bytes, Refused as NotWritten}
 use Rattle.file.specs.Word.{word_at}
 use Rattle.file.specs.Reading.{blocks, lines_in_all, read_answer, read_buffer}
 use Rattle.file.specs.Writing.{write_answer, write_buffer}

@@ -8,7 +8,7 @@
 -- means for the two lines of `pair_run` stands in the specs of `pair`. (rules 10.5 to 10.9.) An end by failure has its reason in it, so "the same
 -- way" is the same end and reason; that it is so stands in Reasons. Proved in proofs/Demand3Proof.
 use Rattle.std.specs.Prelude.{◌≡◌, ℕ, ◌<◌, List}
-use Rattle.table.specs.declared.Verdict.TheVariants.{Passes}
+use Rattle.table.specs.Verdict.Verdict.{Passes}
 use Rattle.table.specs.Checks.{table_check}
 use Rattle.model.specs.Class.{pair}
 use Rattle.model.specs.State.MachineKind.{plain}

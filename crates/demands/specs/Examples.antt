@@ -1,7 +1,7 @@
 -- The examples that are proved (rule 10.11): one list of answers of the public definitions, and what they must be (rules 8.11 to 8.14).
 use Rattle.std.specs.Prelude.{◌≡◌, ℕ, List, [], ◌∷◌, length, replicate, true}
-use Rattle.table.specs.declared.Verdict.{Verdict}
-use Rattle.table.specs.declared.Verdict.TheVariants.{Passes, Refused}
+use Rattle.table.specs.Verdict.{Verdict}
+use Rattle.table.specs.Verdict.Verdict.{Passes, Refused}
 use Rattle.table.specs.Checks.{table_check}
 use Rattle.reduction.specs.Reduction.{places_check, reduce_answer, reduce_buffer}
 use Rattle.model.specs.Class.{pair}

@@ -2,7 +2,7 @@
 -- fails; said of the definitions of which those of the public promises are made. That runs are matched with it is Demand3, one claim still. Proved in
 -- proofs/FalseAlarmsProof.
 use Rattle.std.specs.Prelude.{◌≡◌, ℕ, List}
-use Rattle.table.specs.declared.Verdict.TheVariants.{Passes}
+use Rattle.table.specs.Verdict.Verdict.{Passes}
 use Rattle.table.specs.Checks.{table_check}
 use Rattle.model.specs.Table.{table_of, row_at, row_kind}
 use Rattle.model.specs.Table.Row.{reduced_store}

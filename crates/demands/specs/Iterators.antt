@@ -3,12 +3,12 @@
 -- definitions of which those of the public promises are made. That the reduction of a table that passes still passes is in Demand2, `reduced_passes`.
 -- Proved in proofs/IteratorsProof.
 use Rattle.std.specs.Prelude.{◌≡◌, ℕ, ◌%◌, ◌^◌, ◌≤◌, List, map, length, drop}
-use Rattle.table.specs.declared.Verdict.TheVariants.{Passes, Refused}
+use Rattle.table.specs.Verdict.Verdict.{Passes, Refused}
 use Rattle.table.specs.Checks.{table_check}
 use Rattle.table.specs.Iterators.{PassingSharesNone, SixteenAtInner, SharingRefused, ApartPasses}
 use Rattle.loop_checks.specs.Sharing.{AllDiffer, iterators_of}
 use Rattle.reduction.specs.Reduction.{reduce_answer}
-use Rattle.file.specs.declared.Written.TheVariants.{Refused as NotWritten}
+use Rattle.file.specs.Written.Written.{Refused as NotWritten}
 use Rattle.file.specs.Layout.{file_bytes}
 use Rattle.file.specs.Writing.{write_answer}
 use Rattle.file.specs.Statements.{AllBelow, ReadBack}

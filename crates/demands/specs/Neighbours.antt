@@ -3,7 +3,7 @@
 -- That demand 3 holds of neighbours as of any pair is in Demand3. Proved in proofs/NeighboursProof.
 use Rattle.std.specs.Prelude.{◌≡◌, ◌⊎◌, ℕ, ◌+◌, ◌*◌, ◌<◌, ◌≤◌, true, List, get_or, ltb}
 use Rattle.std.specs.Prelude.{if◌then◌else◌}
-use Rattle.table.specs.declared.Verdict.TheVariants.{Passes, Refused}
+use Rattle.table.specs.Verdict.Verdict.{Passes, Refused}
 use Rattle.table.specs.Checks.{table_check}
 use Rattle.reduction.specs.Reduction.{places_check}
 use Rattle.model.specs.Class.{EmptyClass, ClassHeldRight, pair}

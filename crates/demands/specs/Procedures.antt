@@ -3,7 +3,7 @@
 -- hand back equal callers; said of the definitions of which those of the public promises are made. That a run with calls is matched by a reduced one
 -- is Demand3, one claim still. Proved in proofs/ProceduresProof.
 use Rattle.std.specs.Prelude.{◌≡◌, ℕ, ◌<◌, ◌≤◌, true, false, List, [], length}
-use Rattle.table.specs.declared.Verdict.TheVariants.{Passes, Refused}
+use Rattle.table.specs.Verdict.Verdict.{Passes, Refused}
 use Rattle.table.specs.Checks.{table_check}
 use Rattle.model.specs.Class.{pair}
 use Rattle.model.specs.Table.{Table, table_of, home}

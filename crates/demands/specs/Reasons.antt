@@ -1,7 +1,7 @@
 -- Why a row failed (rules 2.36 to 2.38), said of the public definitions: the reasons have the numbers 1 to 5, matching ends have equal reasons,
 -- and the counter's is the closing row's own. Proved in proofs/ReasonsProof.
 use Rattle.std.specs.Prelude.{◌≡◌, ℕ, ◌<◌, ◌≤◌, false, List, [], ◌∷◌, map, length}
-use Rattle.table.specs.declared.Verdict.TheVariants.{Passes}
+use Rattle.table.specs.Verdict.Verdict.{Passes}
 use Rattle.table.specs.Checks.{table_check}
 use Rattle.model.specs.Class.{pair}
 use Rattle.model.specs.Work.{Reason, reason_number}

@@ -2,7 +2,6 @@
 -- Assumes nothing.
 use Prim.Native.Nat.{ℕ}
 use mathlib.Core.Path.{◌≡◌, refl, sym, ap, ◌∙◌}
-use mathlib.Core.Logic.{◌⊎◌, ⊎_elim}
 use mathlib.Core.List.{List, [], ◌∷◌}
 use mathlib.Core.Bool.{Bool}
 use lib.ListN.{drop}
@@ -17,11 +16,12 @@ use Rattle.model.specs.State.{Array}
 use Rattle.model.specs.Eval.{Of, Ptr, ptr}
 use Rattle.evaluators.specs.CodeAnswers.{failed, out_of, OfType, Answers, Says, Lent, operand}
 use Rattle.evaluators.specs.CodeLeaves.{arith, moved_by, valid_in, test_of}
+use Rattle.evaluators.specs.declared.nodes.Test.{Test}
 use Rattle.evaluators.specs.Reasons.{reason_of}
-use Rattle.evaluators.specs.declared.answers.Reason.{Reason}
+use Rattle.machine.specs.declared.Reason.{Reason}
 use Rattle.evaluators.specs.contracts.answers.Answer.{the_type as answer}
-use Rattle.evaluators.specs.declared.answers.Failure.{Failure}
-use Rattle.evaluators.specs.declared.answers.Failure.TheVariants.{Fails, BadChoice, NoChoice, Stuck}
+use Rattle.machine.specs.declared.Failure.{Failure}
+use Rattle.machine.specs.declared.Failure.TheVariants.{Fails, BadChoice, NoChoice, Stuck}
 use Rattle.evaluators.specs.declared.answers.Answer.{Answer}
 use Rattle.evaluators.specs.declared.answers.Answer.TheVariants.{Bool as ABool, Uint as AUint, Pointer as APointer, Not}
 
@@ -62,12 +62,6 @@ says_same h e = record { said = h.said ∙ e; typed = h.typed }
 
 pub is_same : {w : Ty} {l : List ℕ} {x z : Answer} {o : Out (Of w)} → Answers w l x o → x ≡ z → Answers w l z o
 is_same h e = rw e at h
-
--- x is what one of two ways gave, each of which says o
-pub joined : {A A' : Type 0} {B : A → Type 0} {B' : A' → Type 0} {f : (a : A) → B a → Answer} {g : (a : A') → B' a → Answer} {w : Ty} {x : Answer}
-    {l : List ℕ} {o : Out (Of w)} → ((a : A) × (b : B a) × (x ≡ f a b)) ⊎ ((a : A') × (b : B' a) × (x ≡ g a b))
-    → ((a : A') (b : B' a) → Answers w l (g a b) o) → ((a : A) (b : B a) → Answers w l (f a b) o) → Answers w l x o
-joined came second first = ⊎_elim (λ c. is_same (first c.0 c.1) (sym c.2)) (λ c. is_same (second c.0 c.1) (sym c.2)) came
 
 -- ---- one after the other, as a name that laws fit by
 unfoldable pub followed : {A : Type 0} (w : Ty) → Out A → (A → Work (Of w)) → Out (Of w)
@@ -159,10 +153,10 @@ pub says-valid : (l : List ℕ) (z : Answer) (at : ℕ) (rs : List Array) (r v :
     → Answers bool l z (valid_in rs r v (drop at l))
 says-valid l z at rs r v h = h.says l
 
-unfoldable pub tested : ℕ → ℕ → ℕ → Work Bool
+unfoldable pub tested : Test → ℕ → ℕ → Work Bool
 tested k x y = give (test_of k x y)
 
-pub says-tested : (l : List ℕ) (z : Answer) (at k x y : ℕ) → Says bool at z (give (test_of k x y)) → Answers bool l z (tested k x y (drop at l))
+pub says-tested : (l : List ℕ) (z : Answer) (at : ℕ) (k : Test) (x y : ℕ) → Says bool at z (give (test_of k x y)) → Answers bool l z (tested k x y (drop at l))
 unfolding tested
 says-tested l z at k x y h = h.says l
 

@@ -2,5 +2,6 @@
 pub mod AnswerLaws
 pub mod ViewLaws
 pub mod NodeLaws
+pub mod InputLaws
 pub mod OtherAnswers
 pub mod OtherNodes

@@ -25,7 +25,8 @@ use Rattle.prepared.specs.Own.{own_table, places_of}
 use Rattle.evaluators.specs.contracts.nodes.Node.{the_type as node}
 use Rattle.evaluators.specs.declared.nodes.Node.{Node as Taken}
 use Rattle.evaluators.specs.declared.nodes.Node.TheVariants.{Variable, Constant, Flag, Cell, Arith, Compare, If, Valid, InClass, Nothing}
-use Rattle.evaluators.specs.declared.answers.Failure.TheVariants.{Stuck}
+use Rattle.evaluators.specs.declared.nodes.Test.{Test}
+use Rattle.machine.specs.declared.Failure.TheVariants.{Stuck}
 use Rattle.evaluators.specs.declared.answers.Answer.{Answer}
 use Rattle.evaluators.specs.declared.answers.Answer.TheVariants.{Bool as ABool, Uint as AUint, Not}
 use Rattle.evaluators.specs.CodeAnswers.{Answers, Lent, vars_in, arrays_in, contents_in, operand}
@@ -280,7 +281,7 @@ module _ (e : Lent) (l : List ℕ) (n user : ℕ) {r : Taken} where
     unfolding followed
     bool-valid h read p q = says_same q (at-bool e n user h cs read p)
 
-    pub bool-compare : {k a b : ℕ} → n < user → r ≡ node_in e.own n → r ≡ Compare k a b
+    pub bool-compare : {k : Test} {a b : ℕ} → n < user → r ≡ node_in e.own n → r ≡ Compare k a b
         → Answers bool l z (followed bool (operand e uint n a cs) (λ x ds. followed bool (operand e uint n b ds) (tested k x)))
         → Answers bool l z (operand e bool user n cs)
     unfolding followed tested
@@ -308,7 +309,8 @@ module _ (own : List ℕ) (n : ℕ) where
       (get_or own (136 + 4 * n + 3) 0)
   unfolding node_in
   node-words =
-      ap (λ (i : ℕ). decoded (node_kind (get_or own i 0)) (get_or own (i + 1) 0) (get_or own (i + 1) 0) (get_or own (i + 2) 0) (get_or own (i + 3) 0)) (omega numbers)
+      ap (λ (i : ℕ). decoded (node_kind (get_or own i 0)) (get_or own (i + 1) 0) (get_or own (i + 1) 0) (get_or own (i + 2) 0)
+      (get_or own (i + 3) 0)) (omega numbers)
 
   pub node-read : {a b c : ℕ} {r : Taken} → r ≡ decoded (node_kind (get_or own (136 + 4 * n) 0)) (get_or own (136 + 4 * n + 1) 0) a b c
       → a ≡ get_or own (136 + 4 * n + 1) 0 → b ≡ get_or own (136 + 4 * n + 2) 0 → c ≡ get_or own (136 + 4 * n + 3) 0 → r ≡ node_in own n

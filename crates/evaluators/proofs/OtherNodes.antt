@@ -7,12 +7,14 @@ use mathlib.Core.Bool.{Bool}
 use types.Run.{OneOf, hit}
 use denote.Enum.Declared.{tag_of}
 use Rattle.evaluators.specs.declared.nodes.Node.{Node as Taken}
-use Rattle.evaluators.specs.declared.nodes.Node.TheVariants.{Variable as NVariable, Constant as NConstant, Flag as NFlag, Cell as NCell, Arith as NArith, Compare as NCompare, If as NIf, Valid as NValid, InClass as NInClass, Nothing as NNothing}
+use Rattle.evaluators.specs.declared.nodes.Node.TheVariants.{Variable as NVariable, Constant as NConstant, Flag as NFlag, Cell as NCell, Arith as NArith}
+use Rattle.evaluators.specs.declared.nodes.Node.TheVariants.{Compare as NCompare, If as NIf, Valid as NValid, InClass as NInClass, Nothing as NNothing}
+use Rattle.evaluators.specs.declared.nodes.Test.{Test}
 use Rattle.evaluators.specs.contracts.nodes.Node.{the_type as node}
 
 pub node-no-bool : (x : Taken) → ((a : ℕ) → x ≡ NVariable a → ⊥)
     → ((b : Bool) → x ≡ NFlag b → ⊥)
-    → ((k : ℕ) (a : ℕ) (b : ℕ) → x ≡ NCompare k a b → ⊥)
+    → ((k : Test) (a : ℕ) (b : ℕ) → x ≡ NCompare k a b → ⊥)
     → ((a : ℕ) (b : ℕ) (c : ℕ) → x ≡ NIf a b c → ⊥)
     → ((a : ℕ) → x ≡ NValid a → ⊥)
     → OneOf (1 ∷ 3 ∷ 4 ∷ 8 ∷ 9 ∷ []) (tag_of node x)

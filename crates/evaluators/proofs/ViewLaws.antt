@@ -11,9 +11,7 @@ use mathlib.Core.Bool.{Bool, true, false}
 use lib.ListN.{length, get_or, drop, replicate, get_or-replicate, get_or-append, get_or-eq_default}
 use lib.Dec.{ltb, leb, eqb}
 use borrow.Author.Tests.{lt-ltb, le-ltb, le-leb, lt-leb}
-use types.Run.{OneOf, miss}
-use denote.Enum.Declared.{tag_of}
-use Rattle.std.specs.Prelude.{if◌then◌else◌}
+use Rattle.std.specs.Prelude.{if◌then◌else◌, Option, Some, None}
 use Rattle.lists.proofs.TabLaws.{length-tab, at-tab}
 use Rattle.model.specs.Class.{class}
 use Rattle.model.specs.Table.{Ty, node_kind, node_kinds}
@@ -26,16 +24,13 @@ use Rattle.model.specs.State.{Array}
 use Rattle.model.specs.State.Value.{Uint}
 use Rattle.model.specs.Eval.{Of, of_type, as_uint, as_bool, as_pointer, as_class, variable_of, array_of, no_array, present}
 use Rattle.reader.specs.Choose.{choice_at}
-use Rattle.reader.specs.declared.Choice.{Choice}
-use Rattle.reader.specs.declared.Choice.TheVariants.{Is, NoneLeft}
 use Rattle.reader.proofs.ReaderLaws.{choice-left, none_left}
-use Rattle.prepared.specs.contracts.Form.{the_type as form}
 use Rattle.prepared.specs.declared.Form.{Form}
 use Rattle.prepared.specs.declared.Form.TheVariants.{Bool as FBool, Uint as FUint, Class as FClass, Pointer as FPointer}
 use Rattle.prepared.specs.View.{vars_by, by_form, array_in, arrays_of}
 use Rattle.prepared.specs.Own.{decls_of, own_form, own_vars, places_of}
 use Rattle.prepared.proofs.VarLaws.{value_in}
-use Rattle.evaluators.specs.declared.answers.Failure.TheVariants.{BadChoice, NoChoice, Stuck}
+use Rattle.machine.specs.declared.Failure.TheVariants.{BadChoice, NoChoice, Stuck}
 use Rattle.evaluators.specs.declared.answers.Answer.{Answer}
 use Rattle.evaluators.specs.declared.answers.Answer.TheVariants.{Bool as ABool, Uint as AUint, Pointer as APointer, Not}
 use Rattle.evaluators.specs.declared.arrays.Target.TheVariants.{Array as To, Missing, Unknown}
@@ -69,15 +64,15 @@ no_kind k h16 h17 h18 h19 h20 h21 h22 h23 h24 h25 h26 h27 h28 h29 = elim (dec_le
     below-16 h = omega numbers
 
 -- ---- the cursor: x is the choice that was read
-module _ (ok : ℕ → Bool) (l : List ℕ) (at : ℕ) {x : Choice} (read : x ≡ choice_at l at) where
-  pub chosen-one : {v m : ℕ} → x ≡ Is v m → ok v ≡ true → Answers uint l (AUint v m) (choose ok (drop at l))
+module _ (ok : ℕ → Bool) (l : List ℕ) (at : ℕ) {x : Option (ℕ × ℕ)} (read : x ≡ choice_at l at) where
+  pub chosen-one : {v m : ℕ} → x ≡ Some (v, m) → ok v ≡ true → Answers uint l (AUint v m) (choose ok (drop at l))
   chosen-one {v} {m} p e = said-uint (rw ((choice-left l at v m (sym read ∙ p)).2, e))
 
-  pub chosen-bad : {v m : ℕ} → x ≡ Is v m → ok v ≡ false → Answers uint l (Not BadChoice at) (choose ok (drop at l))
+  pub chosen-bad : {v m : ℕ} → x ≡ Some (v, m) → ok v ≡ false → Answers uint l (Not BadChoice at) (choose ok (drop at l))
   unfolding failed
   chosen-bad {v} {m} p e = said-not uint (rw ((choice-left l at v m (sym read ∙ p)).2, e))
 
-  pub chosen_none : x ≡ NoneLeft → Answers uint l (Not NoChoice at) (choose ok (drop at l))
+  pub chosen_none : x ≡ None → Answers uint l (Not NoChoice at) (choose ok (drop at l))
   unfolding failed
   chosen_none p = said-not uint (rw (none_left l at (sym read ∙ p)).1)
 
@@ -113,28 +108,28 @@ either true P p q = p
 either false P p q = q
 
 module _ (x base : ℕ) (cs : List ℕ) where
-  no-uint : (s : Form) → OneOf (2 ∷ 3 ∷ []) (tag_of form s) → as_uint (by_form s x base) cs ≡ stuck
-  no-uint FBool h = absurd (miss (2 ∷ 3 ∷ []) 0 tt h)
-  no-uint FUint h = absurd (miss (2 ∷ 3 ∷ []) 1 tt h)
-  no-uint FClass h = refl
-  no-uint FPointer h = refl
+  no-uint : (s : Form) → s ≢ FUint → s ≢ FBool → as_uint (by_form s x base) cs ≡ stuck
+  no-uint FBool h k = absurd (k refl)
+  no-uint FUint h k = absurd (h refl)
+  no-uint FClass h k = refl
+  no-uint FPointer h k = refl
 
-  no_bool : (s : Form) → OneOf (1 ∷ 2 ∷ 3 ∷ []) (tag_of form s) → as_bool (by_form s x base) cs ≡ stuck
-  no_bool FBool h = absurd (miss (1 ∷ 2 ∷ 3 ∷ []) 0 tt h)
+  no_bool : (s : Form) → s ≢ FBool → as_bool (by_form s x base) cs ≡ stuck
+  no_bool FBool h = absurd (h refl)
   no_bool FUint h = refl
   no_bool FClass h = refl
   no_bool FPointer h = refl
 
-  no_pointer : (s : Form) → OneOf (0 ∷ 1 ∷ 2 ∷ []) (tag_of form s) → as_pointer (by_form s x base) cs ≡ stuck
+  no_pointer : (s : Form) → s ≢ FPointer → as_pointer (by_form s x base) cs ≡ stuck
   no_pointer FBool h = either (leb x 1) (λ v. as_pointer v cs ≡ stuck) refl refl
   no_pointer FUint h = refl
   no_pointer FClass h = refl
-  no_pointer FPointer h = absurd (miss (0 ∷ 1 ∷ 2 ∷ []) 3 tt h)
+  no_pointer FPointer h = absurd (h refl)
 
-  no-class : (s : Form) → OneOf (0 ∷ 1 ∷ 3 ∷ []) (tag_of form s) → as_class (by_form s x base) cs ≡ stuck
+  no-class : (s : Form) → s ≢ FClass → as_class (by_form s x base) cs ≡ stuck
   no-class FBool h = either (leb x 1) (λ v. as_class v cs ≡ stuck) refl refl
   no-class FUint h = refl
-  no-class FClass h = absurd (miss (0 ∷ 1 ∷ 3 ∷ []) 2 tt h)
+  no-class FClass h = absurd (h refl)
   no-class FPointer h = refl
 
 -- a variable's answer: s is the form that was read
@@ -154,11 +149,11 @@ module _ (own ns : List ℕ) (a at : ℕ) where
     holds-no-uint f k =
         record { held = λ bs count l. said-stuck uint (held-stuck own ns bs a count uint (drop at l) h (sym f ∙ e) (rw (le-leb (get_or ns a 0) 1 k))) }
 
-    pub holds-none-uint : OneOf (2 ∷ 3 ∷ []) (tag_of form s) → HoldsFor uint own ns a at (Not Stuck at)
-    holds-none-uint k =
+    pub holds-none-uint : s ≢ FUint → s ≢ FBool → HoldsFor uint own ns a at (Not Stuck at)
+    holds-none-uint k k₁ =
         record {
           held = λ bs count l. said-stuck uint
-              (held-stuck own ns bs a count uint (drop at l) h e (no-uint (get_or ns a 0) (get_or bs a 0) (drop at l) s k));
+              (held-stuck own ns bs a count uint (drop at l) h e (no-uint (get_or ns a 0) (get_or bs a 0) (drop at l) s k k₁));
         }
 
     pub holds-bool : s ≡ FBool → get_or ns a 0 ≤ 1 → HoldsFor bool own ns a at (ABool (eqb (get_or ns a 0) 1) at)
@@ -168,7 +163,7 @@ module _ (own ns : List ℕ) (a at : ℕ) where
     holds-no-bool f k =
         record { held = λ bs count l. said-stuck bool (held-stuck own ns bs a count bool (drop at l) h (sym f ∙ e) (rw (lt-leb (get_or ns a 0) 1 k))) }
 
-    pub holds-none-bool : OneOf (1 ∷ 2 ∷ 3 ∷ []) (tag_of form s) → HoldsFor bool own ns a at (Not Stuck at)
+    pub holds-none-bool : s ≢ FBool → HoldsFor bool own ns a at (Not Stuck at)
     holds-none-bool k =
         record {
           held = λ bs count l. said-stuck bool
@@ -188,7 +183,7 @@ module _ (own ns : List ℕ) (a at : ℕ) where
       holds-lacking f k =
           record { held = λ l. said-stuck pointer (rw (lt-leb (get_or bs a 0) count k) at (held_in own ns bs a count pointer (drop at l) h (sym f ∙ e))) }
 
-      pub holds-none-pointer : OneOf (0 ∷ 1 ∷ 2 ∷ []) (tag_of form s) → HoldsPointer own ns bs count a at (Not Stuck at)
+      pub holds-none-pointer : s ≢ FPointer → HoldsPointer own ns bs count a at (Not Stuck at)
       holds-none-pointer k =
           record {
             held = λ l. said-stuck pointer
@@ -202,7 +197,7 @@ module _ (own ns : List ℕ) (a at : ℕ) where
     class-out h = record { chosen = λ bs. said-stuck uint (rw (var-out own ns bs a h (drop at l))) }
 
     module _ (h : a < decls_of own) {s : Form} (e : s ≡ own_form own a) where
-      pub class-none : OneOf (0 ∷ 1 ∷ 3 ∷ []) (tag_of form s) → ClassChoice own ns a l at (Not Stuck at)
+      pub class-none : s ≢ FClass → ClassChoice own ns a l at (Not Stuck at)
       unfolding class_in
       class-none k =
           record {

@@ -3,23 +3,13 @@ use Rattle.std.specs.Prelude.{◌≡◌, ℕ, List, drop}
 use Rattle.model.specs.Table.{Ty}
 use Rattle.model.specs.Table.Ty.{bool, uint, pointer}
 use Rattle.model.specs.Work.{Out, Work, give, wrong}
-use Rattle.model.specs.Work.Out.{fails, bad_choice, no_choice, stuck}
 use Rattle.model.specs.State.{Value, Array}
 use Rattle.model.specs.Eval.{Contents, Of, Ptr, ptr, bools, uints, below, eval}
 use Rattle.prepared.specs.View.{arrays_of}
 use Rattle.prepared.specs.Own.{own_table, own_vars, places_of}
-use Rattle.evaluators.specs.Reasons.{reason_of}
-use Rattle.evaluators.specs.declared.answers.Failure.{Failure}
-use Rattle.evaluators.specs.declared.answers.Failure.TheVariants.{Fails, BadChoice, NoChoice, Stuck}
+unfoldable pub use Rattle.machine.specs.Reasons.{failed}
 use Rattle.evaluators.specs.declared.answers.Answer.{Answer}
 use Rattle.evaluators.specs.declared.answers.Answer.TheVariants.{Bool as ABool, Uint as AUint, Pointer as APointer, Not}
-
--- ---- why there is no value, with the cursor at `at` into the list l
-unfoldable pub failed : {A : Type 0} → List ℕ → ℕ → Failure → Out A
-failed l at (Fails reason) = fails (reason_of reason) (drop at l)
-failed l at BadChoice = bad_choice
-failed l at NoChoice = no_choice
-failed l at Stuck = stuck
 
 -- ---- answers
 abbrev pub pointers : (w : Ty) → Work Ptr → Work (Of w)

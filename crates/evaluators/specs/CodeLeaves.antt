@@ -16,6 +16,8 @@ use Rattle.evaluators.specs.declared.answers.Answer.{Answer}
 use Rattle.evaluators.specs.CodeAnswers.{WorksOut, Answers}
 use Rattle.evaluators.specs.declared.nodes.Node.{Node as Taken}
 use Rattle.evaluators.specs.declared.nodes.Node.TheVariants.{Variable, Constant, Flag, Cell, Arith, Compare, If, Valid, InClass, Nothing}
+use Rattle.evaluators.specs.declared.nodes.Test.{Test}
+use Rattle.evaluators.specs.declared.nodes.Test.TheVariants.{Less, AtMost, Equal}
 use Rattle.evaluators.specs.declared.arrays.Target.{Target}
 use Rattle.evaluators.specs.declared.arrays.Target.TheVariants.{Array as To, Missing, Unknown}
 
@@ -83,8 +85,10 @@ unfoldable pub moved_by : Bool → ℕ → ℕ → ℕ → Work Ptr
 moved_by m r p y = arith m p y >>= λ z. give (ptr r z)
 
 -- 22, 23 and 24
-abbrev pub test_of : ℕ → ℕ → ℕ → Bool
-test_of k x y = if eqb k 22 then ltb x y else (if eqb k 23 then leb x y else eqb x y)
+abbrev pub test_of : Test → ℕ → ℕ → Bool
+test_of Less x y = ltb x y
+test_of AtMost x y = leb x y
+test_of Equal x y = eqb x y
 
 -- ---- the nodes, taken apart: k is the first operand as a number
 abbrev pub decoded : Node → ℕ → ℕ → ℕ → ℕ → Taken
@@ -94,9 +98,9 @@ decoded bool_constant k a b c = Flag (eqb k 1)
 decoded cell k a b c = Cell false a
 decoded plus k a b c = Arith false a b
 decoded minus k a b c = Arith true a b
-decoded less k a b c = Compare 22 a b
-decoded at_most k a b c = Compare 23 a b
-decoded equal k a b c = Compare 24 a b
+decoded less k a b c = Compare Less a b
+decoded at_most k a b c = Compare AtMost a b
+decoded equal k a b c = Compare Equal a b
 decoded conditional k a b c = If a b c
 decoded valid k a b c = Valid a
 decoded class_variable k a b c = InClass a

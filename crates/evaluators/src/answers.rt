@@ -10,18 +10,10 @@ ghost use Rattle.evaluators.specs.Reasons.{reason_of};
 ghost use Rattle.evaluators.specs.CodeAnswers.{Answers, Says};
 ghost use Rattle.evaluators.specs.CodeLeaves.{arith, moved_by, test_of};
 
+use crate::nodes::Test;
+pub use machine::{Failure, Reason};
 use prepared::places::class_in;
-use reader::{Choice, take_choice};
-
-// Why an operand or a row failed (rule 2.36).
-#[derive(Clone, Copy)]
-pub enum Reason {
-    SumTooLarge,
-    BelowZero,
-    WithoutArray,
-    PastLength,
-    CounterTooLarge,
-}
+use reader::take_choice;
 
 // The number of a reason.
 pub fn reason_number(reason: Reason) -> u32
@@ -34,16 +26,6 @@ pub fn reason_number(reason: Reason) -> u32
         Reason::PastLength => 4,
         Reason::CounterTooLarge => 5,
     }
-}
-
-// Why there is no value, of an operand, a row or a run: it failed, with its reason; a choice is not allowed; no choice is left; or stuck, the
-// outcome that is no end.
-#[derive(Clone, Copy)]
-pub enum Failure {
-    Fails(Reason),
-    BadChoice,
-    NoChoice,
-    Stuck,
 }
 
 // A value and the place of the next choice, or why there is none. An evaluator's value is of its own type, so that its user hands any other
@@ -61,25 +43,25 @@ pub fn computed(minus: bool, v: u32, w: u32, at: usize) -> Answer
     ensures { Says uint at result (arith minus v w) }
 {
     if minus {
-        if w <= v {
-            return Answer::Uint(v - w, at);
-        }
-        return Answer::Not(Failure::Fails(Reason::BelowZero), at);
+        return match v.checked_sub(w) {
+            Some(z) => Answer::Uint(z, at),
+            None => Answer::Not(Failure::Fails(Reason::BelowZero), at),
+        };
     }
-    if w <= 4294967295 - v {
-        return Answer::Uint(v + w, at);
+    match v.checked_add(w) {
+        Some(z) => Answer::Uint(z, at),
+        None => Answer::Not(Failure::Fails(Reason::SumTooLarge), at),
     }
-    Answer::Not(Failure::Fails(Reason::SumTooLarge), at)
 }
 
 // One more than the start of a loop, for its next round.
 pub fn next_start(v: u32, at: usize) -> Answer
     ensures { Says uint at result (next_start v) }
 {
-    if v < 4294967295 {
-        return Answer::Uint(v + 1, at);
+    match v.checked_add(1) {
+        Some(next) => Answer::Uint(next, at),
+        None => Answer::Not(Failure::Fails(Reason::CounterTooLarge), at),
     }
-    Answer::Not(Failure::Fails(Reason::CounterTooLarge), at)
 }
 
 // A pointer to place v of an array, moved by w.
@@ -94,13 +76,13 @@ pub fn shifted(minus: bool, to: u32, v: u32, w: u32, at: usize) -> Answer
 }
 
 // 22, 23 or 24.
-pub fn compared(test: u32, v: u32, w: u32, at: usize) -> Answer
+pub fn compared(test: Test, v: u32, w: u32, at: usize) -> Answer
     ensures { Says bool at result (give (test_of test v w)) }
 {
     match test {
-        22 => Answer::Bool(v < w, at),
-        23 => Answer::Bool(v <= w, at),
-        _ => Answer::Bool(v == w, at),
+        Test::Less => Answer::Bool(v < w, at),
+        Test::AtMost => Answer::Bool(v <= w, at),
+        Test::Equal => Answer::Bool(v == w, at),
     }
 }
 
@@ -108,10 +90,7 @@ pub fn compared(test: u32, v: u32, w: u32, at: usize) -> Answer
 pub fn branch_of(yes: bool, b: usize, c: usize) -> usize
     ensures { result ≡ (if yes then b else c) }
 {
-    if yes {
-        return b;
-    }
-    c
+    if yes { b } else { c }
 }
 
 // A choice of any number.
@@ -119,7 +98,7 @@ pub fn any_choice(list: &[u32], at: usize) -> Answer
     ensures { Answers uint list.now result (choose (λ v. true) (drop at list.now)) }
 {
     let x = take_choice(list, at);
-    let Choice::Is(v, next) = x else {
+    let Some((v, next)) = x else {
         return Answer::Not(Failure::NoChoice, at);
     };
     Answer::Uint(v, next)
@@ -130,7 +109,7 @@ pub fn choice_in(own: &[u32; 5256], list: &[u32], k: u32, at: usize) -> Answer
     ensures { Answers uint list.now result (choose (λ v. eqb (class (places_of own.now) v) k) (drop at list.now)) }
 {
     let x = take_choice(list, at);
-    let Choice::Is(v, next) = x else {
+    let Some((v, next)) = x else {
         return Answer::Not(Failure::NoChoice, at);
     };
     if class_in(own, v) == k {

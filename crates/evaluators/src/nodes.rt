@@ -5,7 +5,15 @@ ghost use Rattle.evaluators.specs.CodeLeaves.{decoded, node_in};
 
 use prepared::own::NODES;
 
-// A node with its operands. 19 and 28 differ by a bool, and so do 20 and 21; 22 to 24 differ by the kind.
+// What 22, 23 and 24 ask of two numbers.
+#[derive(Clone, Copy)]
+pub enum Test {
+    Less,
+    AtMost,
+    Equal,
+}
+
+// A node with its operands. 19 and 28 differ by whether a place is tracked, 20 and 21 by whether they subtract.
 #[derive(Clone, Copy)]
 pub enum Node {
     Variable(usize),
@@ -13,7 +21,7 @@ pub enum Node {
     Flag(bool),
     Cell(bool, usize),
     Arith(bool, usize, usize),
-    Compare(u32, usize, usize),
+    Compare(Test, usize, usize),
     If(usize, usize, usize),
     Valid(usize),
     InClass(usize),
@@ -38,9 +46,9 @@ fn make(kind: u32, k: u32, a: usize, b: usize, c: usize) -> Node
         19 => Node::Cell(false, a),
         20 => Node::Arith(false, a, b),
         21 => Node::Arith(true, a, b),
-        22 => Node::Compare(22, a, b),
-        23 => Node::Compare(23, a, b),
-        24 => Node::Compare(24, a, b),
+        22 => Node::Compare(Test::Less, a, b),
+        23 => Node::Compare(Test::AtMost, a, b),
+        24 => Node::Compare(Test::Equal, a, b),
         25 => Node::If(a, b, c),
         26 => Node::Valid(a),
         27 => Node::InClass(a),

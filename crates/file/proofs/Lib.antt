@@ -1,4 +1,5 @@
 -- Why the code meets the definitions, and what the definitions come to: a written file reads back, a read file is written again.
+pub mod MethodLaws
 pub mod WordLaws
 pub mod LayoutLaws
 pub mod ReadingLaws

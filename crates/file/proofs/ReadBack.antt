@@ -1,16 +1,18 @@
 -- A written file reads back as its table.
 -- Assumes nothing.
-use Rattle.std.proofs.Common.{◌≡◌, ℕ, zero, suc, ◌+◌, ◌-◌, ◌*◌, ◌/◌, ◌%◌, ◌^◌, ◌<◌, ◌≤◌, min, Bool, true, false, eqb, ltb, List, length, get_or, refl, ◌∙◌, arith, ext_get_or, le-ltb, lt-ltb, eq-eqb}
+use Rattle.std.proofs.Common.{◌≡◌, ℕ, zero, suc, ◌+◌, ◌-◌, ◌*◌, ◌/◌, ◌%◌, ◌^◌, ◌<◌, ◌≤◌, min, Bool, true, false, eqb, ltb, List, length, get_or, refl, ◌∙◌}
+use Rattle.std.proofs.Common.{arith, ext_get_or, le-ltb, lt-ltb, eq-eqb}
 use borrow.Author.Tests.{eqb-false}
 use lib.ListN.{get_or-eq_default}
 use Rattle.std.specs.Prelude.{if◌then◌else◌}
 use Rattle.lists.specs.Tab.{sum}
 use Rattle.lists.proofs.TabLaws.{length-tab, at-tab, same_sum, all_true}
 use Rattle.lists.proofs.FirstLaws.{first-nowhere}
-use Rattle.file.specs.declared.Read.TheVariants.{Lines}
+use Rattle.file.specs.Read.Read.{Lines}
 use Rattle.file.specs.Word.{byte_of}
 use Rattle.file.specs.Layout.{lines_in, blocks_for, lines_held, check_of, body_word, file_word, file_bytes}
-use Rattle.file.specs.Reading.{word, blocks, lines_in_all, wrong_length, wrong_check, wrong_count, wrong_block, read_answer, table_word, table_words, read_buffer}
+use Rattle.file.specs.Reading.{word, blocks, lines_in_all, wrong_length, wrong_check, wrong_count, wrong_block, read_answer, table_word, table_words}
+use Rattle.file.specs.Reading.{read_buffer}
 use Rattle.file.specs.Statements.{AllBelow, ReadBack}
 use Rattle.file.proofs.WordLaws.{word_bytes}
 use Rattle.file.proofs.LayoutLaws.{length-file, word-plain, word-check, file-byte}
@@ -86,7 +88,8 @@ module _ (ws : List ℕ) (fit : AllBelow (2 ^ 32) ws) (whole : length ws % 4 ≡
       ∙ omega arith)
 
   -- block k holds 31 lines if another follows, else 1 to 31
-  right-count : (k : ℕ) → k < blocks_for (lines_in ws) → (t : Bool) → eqb (k + 1) (blocks_for (lines_in ws)) ≡ t → wrong_count (lines_held (lines_in ws) k) t ≡ false
+  right-count : (k : ℕ) → k < blocks_for (lines_in ws) → (t : Bool) → eqb (k + 1) (blocks_for (lines_in ws)) ≡ t
+      → wrong_count (lines_held (lines_in ws) k) t ≡ false
   right-count k l true e = rw (le-ltb (lines_held (lines_in ws) k) 1 (omega arith), le-ltb 31 (lines_held (lines_in ws) k) (omega arith))
   right-count k l false e =
       let more : k + 1 < blocks_for (lines_in ws) = omega (arith, eqb-false (k + 1) (blocks_for (lines_in ws)) e) in
@@ -125,7 +128,8 @@ module _ (ws : List ℕ) (fit : AllBelow (2 ^ 32) ws) (whole : length ws % 4 ≡
       rw (
         right-length,
         first-nowhere (blocks (file_bytes ws)) (wrong_check (file_bytes ws)) 0 (λ k l. right-check k (omega (arith, blocks-file))),
-        first-nowhere (blocks (file_bytes ws)) (wrong_block (file_bytes ws) (lines_in_all (file_bytes ws))) 0 (λ k l. right-block k (omega (arith, blocks-file))),
+        first-nowhere (blocks (file_bytes ws)) (wrong_block (file_bytes ws) (lines_in_all (file_bytes ws))) 0
+            (λ k l. right-block k (omega (arith, blocks-file))),
         total,
       )
 

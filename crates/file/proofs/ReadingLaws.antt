@@ -1,15 +1,22 @@
 -- What it says of a file that the reader accepts it.
 -- Assumes nothing.
-use Rattle.std.proofs.Common.{◌≡◌, ℕ, zero, suc, ◌+◌, ◌-◌, ◌*◌, ◌%◌, ◌<◌, ◌≤◌, Bool, true, false, not, ◌&&◌, ◌||◌, eqb, ltb, List, length, refl, true≢false, arith, ltb-false, ltb-true, ne_eqb, eqb-true}
+use Rattle.std.proofs.Common.{◌≡◌, ◌≢◌, ℕ, zero, suc, ◌+◌, ◌-◌, ◌*◌, ◌%◌, ◌<◌, ◌≤◌, Bool, true, false, not, ◌&&◌, ◌||◌, eqb, ltb, List, length, refl, sym}
+use Rattle.std.proofs.Common.{◌∙◌, true≢false, arith, ltb-false, ltb-true, eq-eqb, ne_eqb, eqb-true}
 use borrow.Author.Tests.{not-false}
 use Rattle.std.specs.Prelude.{if◌then◌else◌}
 use Rattle.lists.specs.Tab.{sum}
 use Rattle.lists.specs.First.{first}
-use Rattle.lists.specs.declared.Found.{Found}
-use Rattle.lists.specs.declared.Found.TheVariants.{At, Nothing}
+use Rattle.std.specs.Prelude.{Option}
+use Rattle.std.specs.Prelude.{Some, None, Err}
 use Rattle.lists.proofs.TabLaws.{all-at}
 use Rattle.lists.proofs.FirstLaws.{first-nowhere-at}
-use Rattle.file.specs.declared.Read.TheVariants.{Lines, Refused}
+use Rattle.table.specs.declared.verdict.Refusal.{Refusal}
+use Rattle.table.specs.Verdict.{refused_as}
+use Rattle.table.specs.Verdict.Verdict.{Passes}
+use Rattle.table.specs.Checks.{refused_at_line}
+use Rattle.table.proofs.CheckLaws.{clean}
+use Rattle.file.specs.Read.{Read, read_of}
+use Rattle.file.specs.Read.Read.{Lines, Refused}
 use Rattle.file.specs.Layout.{check_of}
 use Rattle.file.specs.Reading.{word, blocks, lines_in_all, wrong_length, wrong_check, wrong_count, unused_zero, wrong_block, refused_at_block, read_answer}
 
@@ -23,10 +30,6 @@ none-of-five : (a b c d f : Bool) → (a || b || c || d || f) ≡ false → (a �
 none-of-five true b c d f e = absurd (true≢false e)
 none-of-five false true c d f e = absurd (true≢false e)
 none-of-five false false c d f e = let rest = none-of-three c d f e in (refl, refl, rest.0, rest.1, rest.2)
-
--- a length that check 1 passes
-pub length-fits : (n : ℕ) → wrong_length n ≡ false → n ≤ 22016
-length-fits n e = ltb-false _ _ (none-of-three false (not (eqb (n % 512) 0)) (ltb 22016 n) e).2
 
 -- a block that check 3 passes, in a file of n lines
 pub record RightBlock (bs : List ℕ) (n k : ℕ) : Type 0 where
@@ -68,7 +71,7 @@ pub record Accepted (bs : List ℕ) (room n : ℕ) : Type 0 where
   pub fits : room ≡ 5248
   pub counted : lines_in_all bs ≡ n
 
-right-all : (bs : List ℕ) → first (wrong_block bs (lines_in_all bs)) 0 (blocks bs) ≡ Nothing → (k : ℕ) → k < blocks bs → RightBlock bs (lines_in_all bs) k
+right-all : (bs : List ℕ) → first (wrong_block bs (lines_in_all bs)) 0 (blocks bs) ≡ None → (k : ℕ) → k < blocks bs → RightBlock bs (lines_in_all bs) k
 right-all bs e k l = right-block bs (lines_in_all bs) k (first-nowhere-at (blocks bs) (wrong_block bs (lines_in_all bs)) 0 e k (omega arith) (omega arith))
 
 pub accepted : (bs : List ℕ) (room n : ℕ) → read_answer bs room ≡ Lines n → Accepted bs room n
@@ -81,17 +84,17 @@ accepted bs room n e =
     never : (a b : ℕ) → Refused a b ≡ Lines n → ⊥
     never a b h = let no : ◌≡◌ {A = ℕ} 0 1 = cc in omega arith
 
-    go : (u v : Bool) (c b : Found) (r : Bool)
+    go : (u v : Bool) (c b : Option ℕ) (r : Bool)
         → not (eqb (length bs % 512) 0) ≡ u → ltb 22016 (length bs) ≡ v → first (wrong_check bs) 0 (blocks bs) ≡ c
         → first (wrong_block bs (lines_in_all bs)) 0 (blocks bs) ≡ b → eqb room 5248 ≡ r
         → (if u || v then Refused 1 0 else refused_at_block 2 c (refused_at_block 3 b (if r then Lines (lines_in_all bs) else Refused 14 0))) ≡ Lines n
         → Accepted bs room n
     go true v c b r eu ev ec eb er h = absurd (never _ _ h)
     go false true c b r eu ev ec eb er h = absurd (never _ _ h)
-    go false false (At k) b r eu ev ec eb er h = absurd (never _ _ h)
-    go false false Nothing (At k) r eu ev ec eb er h = absurd (never _ _ h)
-    go false false Nothing Nothing false eu ev ec eb er h = absurd (never _ _ h)
-    go false false Nothing Nothing true eu ev ec eb er h =
+    go false false (Some k) b r eu ev ec eb er h = absurd (never _ _ h)
+    go false false None (Some k) r eu ev ec eb er h = absurd (never _ _ h)
+    go false false None None false eu ev ec eb er h = absurd (never _ _ h)
+    go false false None None true eu ev ec eb er h =
         record {
           whole = eqb-true _ 0 (not-false _ eu);
           short = ltb-false _ _ ev;
@@ -124,6 +127,45 @@ module _ (bs : List ℕ) (right : (k : ℕ) → k < blocks bs → RightBlock bs 
       by true e = (right 0 (ltb-true _ _ e)).most
       by false e = let none : blocks bs ≤ 0 = ltb-false _ _ e in omega (arith, lines-in-blocks)
 
--- the same from what the search for a wrong block found
-pub lines_fit : (bs : List ℕ) → first (wrong_block bs (lines_in_all bs)) 0 (blocks bs) ≡ Nothing → lines_in_all bs ≤ 1312
-lines_fit bs e = lines-most bs (right-all bs e)
+-- a check of all blocks refuses: what the code's answer says of it is the answer
+refuses : (found : Option ℕ) (number : ℕ) (e : Refusal) (rest : Read) → refused_as e ≡ refused_at_line found number Passes
+    → read_of (Err e) ≡ refused_at_block number found rest
+refuses (Some k) number e rest q = cc
+refuses None number e rest q = absurd (let no : ◌≡◌ {A = ℕ} 0 1 = cc in omega arith)
+
+-- the answer, by what the code's answers say of the checks in turn
+module _ (bs : List ℕ) (room : ℕ) where
+  pub wrong-in-length : wrong_length (length bs) ≡ true → Refused 1 0 ≡ read_answer bs room
+  unfolding read_answer
+  wrong-in-length e = rw e
+
+  module _ (long : wrong_length (length bs) ≡ false) where
+    pub wrong-in-check : (found : Option ℕ) (e : Refusal) → found ≡ first (wrong_check bs) 0 (blocks bs) → refused_as e ≡ refused_at_line found 2 Passes
+        → read_of (Err e) ≡ read_answer bs room
+    unfolding read_answer
+    wrong-in-check found e is q = rw (long, ← is) (refuses found 2 e _ q)
+
+    module _ (sum : Option ℕ) (sum-is : sum ≡ first (wrong_check bs) 0 (blocks bs)) (sums-pass : Passes ≡ refused_at_line sum 2 Passes) where
+      checked : first (wrong_check bs) 0 (blocks bs) ≡ None
+      checked = sym sum-is ∙ clean (λ _. sum) 2 sums-pass
+
+      pub wrong-in-block : (n : ℕ) (found : Option ℕ) (e : Refusal) → n ≡ lines_in_all bs → found ≡ first (wrong_block bs n) 0 (blocks bs)
+          → refused_as e ≡ refused_at_line found 3 Passes → read_of (Err e) ≡ read_answer bs room
+      unfolding read_answer
+      wrong-in-block n found e all is q = rw (long, checked, ← all, ← is) (refuses found 3 e _ q)
+
+      module _ (n : ℕ) (block : Option ℕ) (all : n ≡ lines_in_all bs) (block-is : block ≡ first (wrong_block bs n) 0 (blocks bs))
+          (blocks-pass : Passes ≡ refused_at_line block 3 Passes) where
+        laid : first (wrong_block bs (lines_in_all bs)) 0 (blocks bs) ≡ None
+        laid = rw all at (sym block-is ∙ clean (λ _. block) 3 blocks-pass)
+
+        pub lines_fit : n ≤ 1312
+        lines_fit = rw all (lines-most bs (right-all bs laid))
+
+        pub wrong_in_room : room ≢ 5248 → Refused 14 0 ≡ read_answer bs room
+        unfolding read_answer
+        wrong_in_room e = rw (long, checked, laid, ne_eqb room 5248 e)
+
+        pub accepts : room ≡ 5248 → Lines n ≡ read_answer bs room
+        unfolding read_answer
+        accepts e = rw (long, checked, laid, eq-eqb room 5248 e, all)

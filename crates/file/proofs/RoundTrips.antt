@@ -1,10 +1,10 @@
 -- The round trips of the public reader and writer.
 -- Assumes nothing.
 use Rattle.std.proofs.Common.{◌≡◌, ℕ, ◌*◌, ◌%◌, ◌≤◌, List, length, take, sym, refl, ap, ◌∙◌, subst, arith, eq-eqb}
-use Rattle.table.specs.declared.Verdict.{Verdict}
-use Rattle.table.specs.declared.Verdict.TheVariants.{Passes, Refused}
-use Rattle.file.specs.declared.Read.TheVariants.{Lines}
-use Rattle.file.specs.declared.Written.TheVariants.{Bytes}
+use Rattle.table.specs.Verdict.{Verdict}
+use Rattle.table.specs.Verdict.Verdict.{Passes, Refused}
+use Rattle.file.specs.Read.Read.{Lines}
+use Rattle.file.specs.Written.Written.{Bytes}
 use Rattle.lists.specs.Tab.{padded}
 use Rattle.model.specs.State.MachineKind.{plain}
 use Rattle.table.specs.Checks.{table_check, size_check}
@@ -40,7 +40,9 @@ written-reads-back w below out n e buffer f =
     (read_back w below s.0 s.1 buffer f)
   where
     same : (w : List ℕ) → write_check w (length out) ≡ Passes → length (file_bytes w) ≡ n → length w ≤ 5248 → take n (write_buffer w out) ≡ file_bytes w
-    same w p q l = ap (λ (v : Verdict). take n (filled_as v w out)) p ∙ subst (λ (k : ℕ). take k (padded 22016 (file_bytes w)) ≡ file_bytes w) q (written-file w l)
+    same w p q l =
+        ap (λ (v : Verdict). take n (filled_as v w out)) p
+        ∙ subst (λ (k : ℕ). take k (padded 22016 (file_bytes w)) ≡ file_bytes w) q (written-file w l)
 
 pub read-is-written-again : ReadIsWrittenAgain
 unfolding write_check

@@ -1,8 +1,12 @@
 -- Laws of words and their bytes.
 -- Assumes nothing.
-use Rattle.std.proofs.Common.{◌≡◌, ℕ, zero, suc, ◌+◌, ◌*◌, ◌/◌, ◌%◌, ◌^◌, ◌<◌, List, length, get_or, take, set, arith, length-set}
+use Rattle.std.proofs.Common.{◌≡◌, ℕ, zero, suc, ◌+◌, ◌*◌, ◌/◌, ◌%◌, ◌^◌, ◌<◌, List, length, get_or, take, set, refl, sym, ◌∙◌, arith, length-set, w32}
 use Rattle.lists.specs.Tab.{tab}
 use Rattle.lists.proofs.TabLaws.{tab-more}
+use Rattle.std.specs.Int.{to_le_bytes}
+use Rattle.std.proofs.lemmas.List.{append_assoc, drop-drop}
+use Rattle.std.proofs.lemmas.List.Edits.{sets-eq}
+use borrow.Rule.Slice.PartMut.{put_mid}
 use Rattle.file.specs.Word.{word_at, byte_of, put_word}
 
 digits : (w : ℕ) → w < 2 ^ 32 → w % 256 + 256 * (w / 256 % 256) + 65536 * (w / 65536 % 256) + 16777216 * (w / 16777216) ≡ w
@@ -43,3 +47,12 @@ put-more f bs i w l e h =
     let t3 = tab-more f b2 (i + 2) (byte_of w 2) (simp length-set (omega arith)) (rw s1 at t2) (h 2 (omega arith)) in
     let t4 = tab-more f b3 (i + 3) (byte_of w 3) (simp length-set (omega arith)) (rw s2 at t3) (h 3 (omega arith)) in
     rw s3 at t4
+
+-- the bytes of a word, laid over four bytes
+pub laid-over : (bs : List ℕ) (i k w : ℕ) → k ≡ 4 → i + 3 < length bs → put_mid i k bs (to_le_bytes w32 w) ≡ put_word bs i w
+laid-over bs i k w four room =
+    let s1 : suc i ≡ i + 1 = omega arith in
+    let s2 : suc (suc i) ≡ i + 2 = omega arith in
+    let s3 : suc (suc (suc i)) ≡ i + 3 = omega arith in
+    let low : w % 256 ≡ byte_of w 0 = omega arith in
+    rw (four, drop-drop) (rw append_assoc at (sym (sets-eq (to_le_bytes w32 w) bs i (omega arith))) ∙ rw (s3, s2, s1, low) refl)

@@ -4,10 +4,10 @@ use Rattle.std.specs.Prelude.{ℕ, ◌+◌, ◌-◌, ◌*◌, ◌/◌, ◌%◌, 
 use Rattle.std.specs.Prelude.{if◌then◌else◌}
 use Rattle.lists.specs.Tab.{tab, sum, all, padded}
 use Rattle.lists.specs.First.{first}
-use Rattle.lists.specs.declared.Found.{Found}
-use Rattle.lists.specs.declared.Found.TheVariants.{At, Nothing}
-use Rattle.file.specs.declared.Read.{Read}
-use Rattle.file.specs.declared.Read.TheVariants.{Lines, Refused}
+use Rattle.std.specs.Prelude.{Option}
+use Rattle.std.specs.Prelude.{Some, None}
+use Rattle.file.specs.Read.{Read}
+use Rattle.file.specs.Read.Read.{Lines, Refused}
 use Rattle.file.specs.Word.{word_at}
 use Rattle.file.specs.Layout.{check_of}
 
@@ -49,9 +49,9 @@ wrong_block bs n k =
     || not (unused_zero bs k (word bs k 125))
 
 -- the refusal with this number at the block that was found, else what comes after
-abbrev pub refused_at_block : ℕ → Found → Read → Read
-refused_at_block number (At k) rest = Refused number k
-refused_at_block number Nothing rest = rest
+abbrev pub refused_at_block : ℕ → Option ℕ → Read → Read
+refused_at_block number (Some k) rest = Refused number k
+refused_at_block number None rest = rest
 
 -- the answer, for a buffer of so many words: 1, 2, 3, then 14 (rules 6.2, 6.21), else the number of lines (rule 5.9)
 unfoldable pub read_answer : List ℕ → ℕ → Read

@@ -1,13 +1,13 @@
 -- What is proved of these definitions, of every table and every file: proofs/ReadBack, proofs/WriteAgain, proofs/RoundTrips.
 use Rattle.std.specs.Prelude.{◌≡◌, ℕ, ◌*◌, ◌%◌, ◌^◌, ◌<◌, ◌≤◌, List, length, take, slice_index}
 use Rattle.lists.specs.Tab.{padded}
-use Rattle.file.specs.declared.Read.TheVariants.{Lines}
+use Rattle.file.specs.Read.Read.{Lines}
 use Rattle.file.specs.Layout.{lines_in, file_bytes}
-use Rattle.file.specs.declared.Written.TheVariants.{Bytes}
+use Rattle.file.specs.Written.Written.{Bytes}
 use Rattle.file.specs.Reading.{read_answer, read_buffer}
 use Rattle.file.specs.Writing.{write_answer, write_buffer}
 use Rattle.model.specs.State.MachineKind.{plain}
-use Rattle.table.specs.declared.Verdict.TheVariants.{Passes}
+use Rattle.table.specs.Verdict.Verdict.{Passes}
 use Rattle.table.specs.Checks.{table_check}
 
 -- every number of the list is below n

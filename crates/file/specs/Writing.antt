@@ -3,11 +3,11 @@
 use Rattle.std.specs.Prelude.{ℕ, List, length}
 use Rattle.lists.specs.Tab.{padded}
 use Rattle.model.specs.State.MachineKind.{plain}
-use Rattle.table.specs.declared.Verdict.{Verdict}
-use Rattle.table.specs.declared.Verdict.TheVariants.{Passes, Refused}
+use Rattle.table.specs.Verdict.{Verdict}
+use Rattle.table.specs.Verdict.Verdict.{Passes, Refused}
 use Rattle.table.specs.Checks.{table_check, and_then, size_check}
-use Rattle.file.specs.declared.Written.{Written}
-use Rattle.file.specs.declared.Written.TheVariants.{Bytes, Refused as NotWritten}
+use Rattle.file.specs.Written.{Written}
+use Rattle.file.specs.Written.Written.{Bytes, Refused as NotWritten}
 use Rattle.file.specs.Layout.{file_bytes}
 
 -- the table's checks, then 14 (rule 6.21)

@@ -1,6 +1,6 @@
 // The blocks of a table's file, each word written once, the check folded on the way.
 ghost use Rattle.std.specs.Prelude.{◌≡◌, ◌+◌, ◌*◌, ◌<◌, ◌≤◌, length, take};
-ghost use Rattle.lists.specs.Tab.{tab, padded};
+ghost use Rattle.lists.specs.Tab.{tab};
 ghost use Rattle.file.specs.Layout.{lines_held, body_word, file_byte};
 
 use crate::layout::{BLOCK, CHECK, LINE_WORDS};
@@ -12,16 +12,11 @@ fn lines_held(n: usize, k: usize) -> u32
     requires { k < 43 }
     ensures { result ≡ lines_held n k }
 {
-    if n < 31 * k {
-        return 0;
-    }
-    if n - 31 * k < 31 {
-        return (n - 31 * k) as u32;
-    }
-    31
+    n.saturating_sub(31 * k).min(31) as u32
 }
 
 // Word r of block k, the check left out.
+#[tactic(auto, unfolding(crate::specs::Layout::body_word))]
 fn body_word(ws: &[u32], k: usize, r: usize) -> u32
     requires { (length ws.now ≤ 5248) × (k < 43) × (r < 127) }
     ensures { result ≡ body_word ws.now k r }
@@ -45,24 +40,10 @@ pub(crate) fn put_block(ws: &[u32], out: &mut [u8], k: usize)
     ensures { (length out.new ≡ 22016) × (take (512 * k + 512) out.new ≡ tab (512 * k + 512) (file_byte ws.now)) }
 {
     let mut sum: u32 = 0;
-    let mut r: usize = 0;
-    while r < 127 {
+    for r in 0..127 {
         let w = body_word(ws, k, r);
         put_word(out, BLOCK * k + 4 * r, w);
-        sum = std::num::wrapping_add_u32(sum, w);
-        r += 1;
+        sum = sum.wrapping_add(w);
     }
     put_word(out, BLOCK * k + CHECK, sum);
-}
-
-// The bytes from place `from` on become zero.
-pub(crate) fn zero_bytes(out: &mut [u8], from: usize)
-    requires { from ≤ length out.old }
-    ensures { out.new ≡ padded (length out.old) (take from out.old) }
-{
-    let mut i = from;
-    while i < out.len() {
-        out[i] = 0;
-        i += 1;
-    }
 }

@@ -1,19 +1,10 @@
 // The table's words, taken from a file that passed its checks into the words lent.
-ghost use Rattle.std.specs.Prelude.{◌≡◌, ◌+◌, ◌*◌, ◌<◌, ◌≤◌, min, length, take};
+ghost use Rattle.std.specs.Prelude.{◌≡◌, ◌+◌, ◌*◌, ◌<◌, ◌≤◌, length, take};
 ghost use Rattle.lists.specs.Tab.{tab, padded};
 ghost use Rattle.file.specs.Reading.{blocks, table_word, table_words};
 
 use crate::layout::{BLOCK, LINE_WORDS};
 use crate::word::word_at;
-
-fn least(a: usize, b: usize) -> usize
-    ensures { result ≡ min a b }
-{
-    if a < b {
-        return a;
-    }
-    b
-}
 
 // The words of block k, up to word `end` of the table.
 fn fill_block(bytes: &[u8], words: &mut [u32], k: usize, end: usize)
@@ -21,12 +12,9 @@ fn fill_block(bytes: &[u8], words: &mut [u32], k: usize, end: usize)
     requires words_value { take (124 * k) words.old ≡ tab (124 * k) (table_word bytes.now) }
     ensures { (length words.new ≡ length words.old) × (take end words.new ≡ tab end (table_word bytes.now)) }
 {
-    let mut i = LINE_WORDS * k;
-    let mut at = BLOCK * k;
-    while i < end {
-        words[i] = word_at(bytes, at);
-        i += 1;
-        at += 4;
+    let start = LINE_WORDS * k;
+    for i in start..end {
+        words[i] = word_at(bytes, BLOCK * k + 4 * (i - start));
     }
 }
 
@@ -35,22 +23,8 @@ fn fill_words(bytes: &[u8], words: &mut [u32], n: usize)
     requires { (n ≤ 124 * blocks bytes.now) × (n ≤ length words.old) }
     ensures { (length words.new ≡ length words.old) × (take n words.new ≡ tab n (table_word bytes.now)) }
 {
-    let mut k: usize = 0;
-    while LINE_WORDS * k < n {
-        fill_block(bytes, words, k, least(n, LINE_WORDS * k + LINE_WORDS));
-        k += 1;
-    }
-}
-
-// The words from place `from` on become zero.
-fn zero_words(words: &mut [u32], from: usize)
-    requires { from ≤ length words.old }
-    ensures { words.new ≡ padded (length words.old) (take from words.old) }
-{
-    let mut i = from;
-    while i < words.len() {
-        words[i] = 0;
-        i += 1;
+    for k in 0..n.div_ceil(LINE_WORDS) {
+        fill_block(bytes, words, k, n.min(LINE_WORDS * (k + 1)));
     }
 }
 
@@ -60,5 +34,5 @@ pub(crate) fn fill(bytes: &[u8], words: &mut [u32], n: usize)
     ensures { words.new ≡ padded 5248 (table_words bytes.now n) }
 {
     fill_words(bytes, words, 4 * n);
-    zero_words(words, 4 * n);
+    words[4 * n..].fill(0);
 }

@@ -1,3 +1,3 @@
--- The laws by which the checks of a table are proved, shared by the crates above.
+-- Proofs of what the checks of a table share.
 pub mod KindLaws
 pub mod LineLaws

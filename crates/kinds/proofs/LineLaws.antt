@@ -10,22 +10,24 @@ use mathlib.Core.Path.{◌≡◌, refl, sym, ap, ◌∙◌, subst}
 use mathlib.Core.Bool.{Bool, true, false, ◌&&◌, false≢true}
 use mathlib.Core.Logic.{⊎_elim}
 use mathlib.Core.List.{List, [], ◌∷◌}
+use mir.Val.{bool_byte}
 use lib.ListN.{length, get_or, set}
 use lib.Seq.{get_or-set_same, get_or-set_other}
 use lib.Dec.{ltb, leb, eqb}
 use borrow.Author.Tests.{ltb-true, leb-true, le-ltb, le-leb, eq-eqb, ne_eqb}
 use Rattle.std.specs.Prelude.{if◌then◌else◌}
-use Rattle.lists.specs.declared.Found.TheVariants.{At, Nothing}
+use Rattle.std.specs.Prelude.{Some, None}
 use Rattle.lists.specs.First.{first}
 use Rattle.lists.proofs.BoolLaws.{and_right}
 use Rattle.lists.proofs.FirstLaws.{first_below, first_found, first-hit, first-miss, first-none, first-nowhere-at}
-use Rattle.model.specs.Table.{Table, is_declaration, is_node, is_row, node_kind, row_kind, node_roles, row_roles, row_at, Nest, nest_at, nested, open_at, none_open}
+use Rattle.model.specs.Table.{Table, is_declaration, is_node, is_row, node_kind, row_kind, node_roles, row_roles, row_at}
+use Rattle.model.specs.Table.{Nest, nest_at, nested, open_at, none_open}
 use Rattle.model.specs.Table.{opens_procedure, is_opening, home}
 use Rattle.model.specs.Table.Nest.{opens, closes, neither}
 use Rattle.model.specs.Accepted.{all_there, locals_there, row_there}
 use Rattle.model.proofs.ReduceLaws.{opens-43}
 use Rattle.kinds.specs.Kinds.{roles_of, kind_at, of_node_or_row, of_row}
-use Rattle.kinds.specs.Code.{nest_number, nest, open_after, first_row, InSorts, There, LocalsFit}
+use Rattle.kinds.specs.Code.{open_after, first_row, InSorts, There, LocalsFit}
 
 -- ---- the lines of each sort
 
@@ -104,7 +106,7 @@ module _ (g : ℕ → Bool) (t : Table) (laid : InSorts t) where
       let e : t.decls + t.nodes + 0 ≡ t.decls + t.nodes = omega arith in
       rw e (first-skip (of_row g t) (t.decls + t.nodes) (length t.words / 4) (omega (arith, laid.whole)) (λ j l. before-rows t laid j g l))
 
-  pub row-hit : (r : ℕ) → r < t.rows → g r ≡ true → first_row g t r ≡ At (t.decls + t.nodes + r)
+  pub row-hit : (r : ℕ) → r < t.rows → g r ≡ true → first_row g t r ≡ Some (t.decls + t.nodes + r)
   row-hit r l h = first-hit (of_row g t) (t.decls + t.nodes + r) (length t.words / 4) (omega (arith, laid.whole)) (at r l ∙ h)
 
   pub row-miss : (r : ℕ) → r < t.rows → g r ≡ false → first_row g t r ≡ first_row g t (r + 1)
@@ -113,7 +115,7 @@ module _ (g : ℕ → Bool) (t : Table) (laid : InSorts t) where
       first-miss (of_row g t) (t.decls + t.nodes + r) (length t.words / 4) (omega (arith, laid.whole)) (at r l ∙ h)
       ∙ ap (λ (i : ℕ). first (of_row g t) i (length t.words / 4 - i)) e
 
-  pub row-none : (r : ℕ) → t.rows ≤ r → first_row g t r ≡ Nothing
+  pub row-none : (r : ℕ) → t.rows ≤ r → first_row g t r ≡ None
   row-none r l = first-none (of_row g t) (t.decls + t.nodes + r) (length t.words / 4) (omega (arith, laid.whole))
 
   -- what is sought, past rows that do not break it, and past all
@@ -121,11 +123,11 @@ module _ (g : ℕ → Bool) (t : Table) (laid : InSorts t) where
   rows-past zero l h = rows_start
   rows-past (suc k) l h = rows-past k (omega arith) (λ r b. h r (omega arith)) ∙ row-miss k l (h k (omega arith)) ∙ ap (first_row g t) (add-one k)
 
-  pub rows_none : ((r : ℕ) → r < t.rows → g r ≡ false) → first (of_row g t) 0 (length t.words / 4) ≡ Nothing
+  pub rows_none : ((r : ℕ) → r < t.rows → g r ≡ false) → first (of_row g t) 0 (length t.words / 4) ≡ None
   rows_none h = rows-past t.rows (omega arith) h ∙ row-none t.rows (omega arith)
 
   -- a check that no row breaks
-  pub no-row : first (of_row g t) 0 (length t.words / 4) ≡ Nothing → (r : ℕ) → r < t.rows → g r ≡ false
+  pub no-row : first (of_row g t) 0 (length t.words / 4) ≡ None → (r : ℕ) → r < t.rows → g r ≡ false
   no-row e r l =
       sym (at r l) ∙ first-nowhere-at (length t.words / 4) (of_row g t) 0 e (t.decls + t.nodes + r) (omega arith) (omega (arith, laid.whole))
 
@@ -137,7 +139,7 @@ module _ (g : ℕ → Bool) (t : Table) (laid : InSorts t) where
     pub holds : g row ≡ true
     pub first : (r : ℕ) → r < row → g r ≡ false
 
-  pub row-found : (line : ℕ) → first (of_row g t) 0 (length t.words / 4) ≡ At line → RowFound line
+  pub row-found : (line : ℕ) → first (of_row g t) 0 (length t.words / 4) ≡ Some line → RowFound line
   row-found line e =
       let F = first_found (length t.words / 4) (of_row g t) 0 line e in
       let below : line < length t.words / 4 = omega (arith, first_below (length t.words / 4) (of_row g t) 0 line e) in
@@ -174,12 +176,12 @@ locals-fit t laid th r inside e n =
 -- ---- a buffer that is filled in rising order
 
 -- what holds of the places below n, and of what is put at n
-pub kept_more : (P : ℕ → ℕ → Type 0) (l : List ℕ) (n v : ℕ) → n < length l → ((j : ℕ) → j < n → P j (get_or l j 0)) → P n v → (j : ℕ) → j < n + 1
-    → P j (get_or (set l n v) j 0)
-kept_more P l n v h e w j k =
+pub kept_more : {A : Type 0} (d : A) (P : ℕ → A → Type 0) (l : List A) (n : ℕ) (v : A) → n < length l → ((j : ℕ) → j < n → P j (get_or l j d)) → P n v
+    → (j : ℕ) → j < n + 1 → P j (get_or (set l n v) j d)
+kept_more d P l n v h e w j k =
     let most : j ≤ n = omega arith in
-    ⊎_elim (λ q. subst (λ x. P x (get_or (set l n v) x 0)) (sym q) (rw (get_or-set_same l n v 0 h) w))
-    (λ b. rw (get_or-set_other l n j v 0 (λ q. omega arith)) (e j b)) (eq-or-lt_of_le most)
+    ⊎_elim (λ q. subst (λ x. P x (get_or (set l n v) x d)) (sym q) (rw (get_or-set_same l n v d h) w))
+    (λ b. rw (get_or-set_other l n j v d (λ q. omega arith)) (e j b)) (eq-or-lt_of_le most)
 
 pub three : (p q r : Bool) → (p && (q && r)) ≡ true → (p ≡ true) × (q ≡ true) × (r ≡ true)
 three true true true e = (refl, refl, refl)
@@ -189,15 +191,24 @@ three false q r e = absurd (false≢true e)
 
 -- ---- open loops, counted
 
-open-nested : (n : Nest) (r : ℕ) (os : List ℕ) → length (nested n r os) ≡ open_after (nest_number n) (length os)
+open-nested : (n : Nest) (r : ℕ) (os : List ℕ) → length (nested n r os) ≡ open_after n (length os)
 open-nested opens r os = omega arith
 open-nested closes r [] = refl
 open-nested closes r (o ∷ os) = omega arith
 open-nested neither r os = refl
 
-pub open_more : (t : Table) (i : ℕ) → length (open_at t (i + 1)) ≡ open_after (nest (row_at t i).kind) (length (open_at t i))
-unfolding open_at nest
+pub open_more : (t : Table) (i : ℕ) → length (open_at t (i + 1)) ≡ open_after (nest_at t i) (length (open_at t i))
+unfolding open_at
 open_more t i = rw (add-one i) (open-nested (nest_at t i) i (open_at t i))
+
+-- a test as a number of one bit, for a count
+pub byte-is : (b : Bool) → bool_byte b ≡ (if b then 1 else 0)
+byte-is true = refl
+byte-is false = refl
+
+pub byte-most : (b : Bool) → bool_byte b ≤ 1
+byte-most true = omega arith
+byte-most false = omega arith
 
 pub some : (d : ℕ) → eqb (suc d) 0 ≡ false
 some d = ne_eqb (suc d) 0 (λ e. omega arith)

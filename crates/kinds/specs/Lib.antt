@@ -1,3 +1,3 @@
--- What the checks of a table share: the rules of a line by its kind, and the code's words for them.
+-- Lines by their kinds.
 pub mod Kinds
 pub mod Code

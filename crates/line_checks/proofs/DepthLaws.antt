@@ -8,24 +8,17 @@ use mathlib.Core.Bool.{Bool, true, false}
 use mathlib.Core.List.{List}
 use lib.ListN.{length, get_or, replicate, set}
 use lib.Seq.{get_or-set_same, get_or-set_other}
-use lib.Dec.{ltb, eqb}
+use lib.Dec.{ltb}
 use borrow.Author.Tests.{ltb-true}
 use Rattle.std.specs.Prelude.{if◌then◌else◌}
 use Rattle.lists.proofs.FallingLaws.{value-is}
-use Rattle.model.specs.Table.{Table, node_at, node_kind, Role, node_roles}
+use Rattle.model.specs.Table.{Table, node_at, node_kind, Role, Roles, node_roles}
 use Rattle.model.specs.Table.Role.{unused, flag, number, a_variable, a_node}
 use Rattle.kinds.specs.Kinds.{roles_of}
-use Rattle.kinds.specs.Code.{role_number, InSorts}
+use Rattle.kinds.specs.Code.{InSorts}
 use Rattle.kinds.proofs.LineLaws.{roles-node}
 use Rattle.line_checks.specs.Rules.{operand_depth, depth_by, depth}
 use Rattle.line_checks.specs.Code.{Kept, depth_under}
-
-operand-by : (r : Role) (below : ℕ → ℕ) (x : ℕ) → operand_depth r below x ≡ (if eqb (role_number r) 4 then below x else 0)
-operand-by unused below x = refl
-operand-by flag below x = refl
-operand-by number below x = refl
-operand-by a_variable below x = refl
-operand-by a_node below x = refl
 
 module _ (t : Table) where
   -- a node's depth by those of its operands
@@ -58,18 +51,11 @@ module _ (t : Table) where
   pub depth-most : (n : ℕ) → depth t n ≤ n + 1
   depth-most n = all_most (suc n) n (omega arith)
 
-  operand : (n : ℕ) (r : Role) (x : ℕ) → operand_depth r (λ j. if ltb j n then depth t j else 0) x ≡ depth_under t n (role_number r) x
-  operand n r x = operand-by r (λ j. if ltb j n then depth t j else 0) x
-
   -- as the code works it out
-  pub depth_is : InSorts t → (n : ℕ) → n < t.nodes → (k : ℕ) → k ≡ (node_at t n).kind
-      → 1 + max (depth_under t n (role_number (roles_of k).a) (node_at t n).a)
-      (max (depth_under t n (role_number (roles_of k).b) (node_at t n).b) (depth_under t n (role_number (roles_of k).c) (node_at t n).c))
-      ≡ depth t n
-  depth_is sorts n l k q =
-      let rs = node_roles (node_kind (node_at t n).kind) in
-      let e = roles-node (node_at t n).kind (sorts.node (t.decls + n) (omega arith) (omega arith)) in
-      sym (by-operands n ∙ rw (operand n rs.a (node_at t n).a, operand n rs.b (node_at t n).b, operand n rs.c (node_at t n).c, ← e, q))
+  pub depth_is : InSorts t → (n : ℕ) → n < t.nodes → (rs : Roles) → rs ≡ roles_of (node_at t n).kind
+      → 1 + max (depth_under t n rs.a (node_at t n).a) (max (depth_under t n rs.b (node_at t n).b) (depth_under t n rs.c (node_at t n).c)) ≡ depth t n
+  depth_is sorts n l rs q =
+      rw (q, roles-node (node_at t n).kind (sorts.node (t.decls + n) (omega arith) (omega arith))) (sym (by-operands n))
 
   -- nothing is kept at first, and a depth may be put where it belongs
   pub kept-none : (n : ℕ) → Kept t (replicate n 0)

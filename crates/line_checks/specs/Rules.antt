@@ -1,12 +1,12 @@
 -- The checks 5 to 10 and 12 of a table's line (section 6 of the rules): line i breaks the check. 11 and 16, of loops, are said with the table, 17 with
 -- the procedures. What demand 3 needs of them is said in the model (specs/Accepted), and is used from there.
-use Rattle.std.specs.Prelude.{ℕ, ◌+◌, ◌-◌, max, Bool, true, false, not, ◌&&◌, ◌||◌, ltb, leb, eqb}
+use Rattle.std.specs.Prelude.{ℕ, ◌+◌, ◌-◌, max, Bool, false, not, ◌&&◌, ◌||◌, ltb, leb}
 use Rattle.lists.specs.Falling.{value_at}
 use Rattle.model.specs.Table.{Table, Line, line_at, is_declaration, is_node, is_row, node_at, Role, Roles, node_roles, node_kind}
 use Rattle.model.specs.Table.Role.{unused, flag, number, a_variable, a_node}
 use Rattle.model.specs.State.{MachineKind}
 use Rattle.model.specs.Accepted.{known, node_there, row_there, node_typed, row_typed, node_suits_mark, row_suits_mark}
-use Rattle.kinds.specs.Kinds.{sort_number, roles_of, kind_at, of_node_or_row}
+use Rattle.kinds.specs.Kinds.{sort_number, roles_of, value_suits, kind_at, of_node_or_row}
 
 -- 5 (rule 6.10). The first line whose sort is below that of an earlier line is one whose sort is
 -- below that of the line before it; line 0 has none before it
@@ -30,13 +30,6 @@ breaks6 t i =
     || (is_row (kind_at t i) && leb (t.decls + t.nodes + most_rows) i))
 
 -- 7, by the role of each operand (rules 1.6, 1.10, 6.12)
-abbrev pub value_suits : Role → ℕ → Bool
-value_suits unused x = eqb x 0
-value_suits flag x = leb x 1
-value_suits number x = true
-value_suits a_variable x = true
-value_suits a_node x = true
-
 abbrev pub values_suit : Roles → Line → Bool
 values_suit rs l = value_suits rs.a l.a && (value_suits rs.b l.b && value_suits rs.c l.c)
 

@@ -1,11 +1,11 @@
 // Check 12: the mark of the variable that a line names suits its kind.
 ghost use Rattle.std.specs.Prelude.{◌≡◌, ◌+◌, ◌*◌, ◌<◌, length};
 ghost use Rattle.kinds.specs.Kinds.{machine_of};
-ghost use Rattle.kinds.specs.Code.{table_by, InSorts};
+ghost use Rattle.kinds.specs.Code.{table_in, InSorts};
 ghost use Rattle.line_checks.specs.Rules.{breaks12};
 ghost use Rattle.line_checks.specs.Code.{line_suits};
 
-use kinds::{Counts, is_marked, marking_of, suits_mark};
+use kinds::{Lines, is_marked, suits_mark};
 
 const UINT: u32 = 2;
 
@@ -19,17 +19,17 @@ fn line_suits(words: &[u32], reduced: bool, line: usize) -> bool
     let a = words[w + 1];
     let u = is_marked(words, UINT, a);
     let p = is_marked(words, POINTER, a);
-    suits_mark(marking_of(words[w]), reduced, u, p)
+    suits_mark(words[w], reduced, u, p)
 }
 
 // 12
-pub fn breaks_12(words: &[u32], counts: Counts, reduced: bool, line: usize) -> bool
-    requires in_sorts { InSorts (table_by words.now counts) }
-    requires line_in_bounds { 4 * line + 3 < length words.now }
-    ensures { result ≡ breaks12 (machine_of reduced) (table_by words.now counts) line }
+pub fn breaks_12(lines: Lines, reduced: bool, line: usize) -> bool
+    requires in_sorts { InSorts (table_in lines) }
+    requires line_in_bounds { 4 * line + 3 < length lines.words.now }
+    ensures { result ≡ breaks12 (machine_of reduced) (table_in lines.entry) line }
 {
-    if line < counts.decls {
+    if line < lines.counts.decls {
         return false;
     }
-    !line_suits(words, reduced, line)
+    !line_suits(lines.words, reduced, line)
 }

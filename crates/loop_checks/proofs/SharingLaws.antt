@@ -11,7 +11,7 @@ use lib.Dec.{leb, eqb}
 use borrow.Author.Tests.{eqb-true, eqb-false, eq-eqb, ne_eqb, le-leb, leb-true}
 use Rattle.std.specs.Prelude.{if◌then◌else◌}
 use Rattle.lists.specs.First.{walk, first}
-use Rattle.lists.specs.declared.Found.TheVariants.{At}
+use Rattle.std.specs.Prelude.{Some}
 use Rattle.lists.proofs.BoolLaws.{and_left, and_right}
 use Rattle.model.specs.Table.{Table, row_at, Nest, nest_at, nested, scanned, matching_end, open_at, is_opening, home}
 use Rattle.model.specs.Table.Nest.{opens, closes, neither}
@@ -200,7 +200,7 @@ module _ (t : Table) where
       (rw (le-leb (home t r) o (omega (arith, home-low o, S.together)), eq-eqb (row_at t o).a (row_at t r).a (sym S.iterator))))
 
 -- the first row that breaks 16 is the inner of the first two loops that share an iterator
-pub first-shares : (t : Table) (line : ℕ) → InSorts t → first (of_row (shared t) t) 0 (length t.words / 4) ≡ At line → FirstShares t line
+pub first-shares : (t : Table) (line : ℕ) → InSorts t → first (of_row (shared t) t) 0 (length t.words / 4) ≡ Some line → FirstShares t line
 first-shares t line laid h =
     let R = row-found (shared t) t laid line h in
     let S = shares-found t R.row (omega (arith, R.there)) R.holds in

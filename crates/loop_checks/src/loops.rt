@@ -2,18 +2,24 @@
 ghost use Rattle.std.specs.Prelude.{◌≡◌, ◌+◌, ◌*◌, ◌/◌, ◌<◌, ◌≤◌, length, leb};
 ghost use Rattle.lists.specs.First.{first};
 ghost use Rattle.model.specs.Table.{matching_end};
-ghost use Rattle.kinds.specs.Code.{table_by, InSorts};
+ghost use Rattle.kinds.specs.Kinds.{nest_said};
+ghost use Rattle.kinds.specs.Code.{table_by, table_in, InSorts};
 ghost use Rattle.loop_checks.specs.Rules.{breaks11};
-ghost use Rattle.loop_checks.specs.Code.{unnested};
+ghost use Rattle.loop_checks.specs.Code.{ends_scan, unnested};
 
-use kinds::{Counts, nest_of, open_after};
-use lists::Found;
-
-const OPENS: u32 = 1;
-
-const CLOSES: u32 = 2;
+use kinds::{Counts, Lines, Nest, nest_of, open_after};
 
 const MOST: usize = 8;
+
+// Whether a row that nests so closes the loop that is looked at, with so many loops open inside it.
+fn ends_scan(nest: Nest, inner: usize) -> bool
+    ensures { result ≡ ends_scan (nest_said nest) inner }
+{
+    match nest {
+        Nest::Closes => inner == 0,
+        Nest::Opens | Nest::Neither => false,
+    }
+}
 
 // The row that closes the loop of a row, or the row count. For the crates above, once the checks have passed: it asks for as many lines as
 // the counts say, and for a row among them.
@@ -29,7 +35,7 @@ pub fn matching_end(words: &[u32], counts: Counts, row: usize) -> usize
         }
         let line = counts.decls + counts.nodes + i;
         let nest = nest_of(words[4 * line]);
-        if (nest == CLOSES) & (inner == 0) {
+        if ends_scan(nest, inner) {
             break 'scan i;
         }
         inner = open_after(nest, inner);
@@ -39,34 +45,31 @@ pub fn matching_end(words: &[u32], counts: Counts, row: usize) -> usize
 }
 
 // Whether a row breaks 11, with so many loops open before it: an end with none, a loop inside eight or never closed.
-fn row_breaks(words: &[u32], counts: Counts, nest: u32, count: usize, row: usize) -> bool
-    requires { (length words.now ≡ 4 * (counts.decls + counts.nodes + counts.rows)) × (row < counts.rows) }
-    ensures { result ≡ unnested nest count (leb counts.rows (matching_end (table_by words.now counts) row)) }
+fn row_breaks(lines: Lines, nest: Nest, count: usize, row: usize) -> bool
+    requires { (length lines.words.now ≡ 4 * (lines.counts.decls + lines.counts.nodes + lines.counts.rows)) × (row < lines.counts.rows) }
+    ensures { result ≡ unnested (nest_said nest) count (leb lines.entry.counts.rows (matching_end (table_in lines.entry) row)) }
 {
-    if nest == CLOSES {
-        return count == 0;
+    match nest {
+        Nest::Opens => (lines.counts.rows <= matching_end(lines.words, lines.counts, row))
+            | (MOST <= count),
+        Nest::Closes => count == 0,
+        Nest::Neither => false,
     }
-    if nest == OPENS {
-        return (counts.rows <= matching_end(words, counts, row)) | (MOST <= count);
-    }
-    false
 }
 
 // 11: the first row that breaks it, the open loops counted on the way.
-pub fn first_unnested(words: &[u32], counts: Counts) -> Found
-    requires { InSorts (table_by words.now counts) }
-    ensures { result ≡ first (breaks11 (table_by words.now counts)) 0 (length words.now / 4) }
+pub fn first_unnested(lines: Lines) -> Option<usize>
+    requires { InSorts (table_in lines) }
+    ensures { result ≡ first (breaks11 (table_in lines.entry)) 0 (length lines.entry.words.now / 4) }
 {
     let mut count: usize = 0;
-    let mut row: usize = 0;
-    while row < counts.rows {
-        let line = counts.decls + counts.nodes + row;
-        let nest = nest_of(words[4 * line]);
-        if row_breaks(words, counts, nest, count, row) {
-            return Found::At(line);
+    for row in 0..lines.counts.rows {
+        let line = lines.counts.decls + lines.counts.nodes + row;
+        let nest = nest_of(lines.kind_of_row(row));
+        if row_breaks(lines, nest, count, row) {
+            return Some(line);
         }
         count = open_after(nest, count);
-        row += 1;
     }
-    Found::Nothing
+    None
 }

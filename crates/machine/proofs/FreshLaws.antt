@@ -5,12 +5,10 @@ use native.Mathlib.Omega.{arith}
 use mathlib.Core.Path.{◌≡◌, refl, sym, ap, ◌∙◌}
 use mathlib.Core.Logic.{◌≢◌}
 use mathlib.Core.Bool.{Bool, true, false}
-use mathlib.Core.List.{List, [], ◌∷◌}
+use mathlib.Core.List.{List}
 use lib.ListN.{get_or, set, replicate, get_or-replicate}
 use lib.Dec.{ltb}
 use borrow.Author.Tests.{ltb-true, ltb-false, lt-ltb, le-ltb}
-use types.Run.{OneOf, miss}
-use denote.Enum.Declared.{tag_of}
 use Rattle.std.specs.Prelude.{if◌then◌else◌}
 use Rattle.lists.specs.Tab.{tab}
 use Rattle.lists.proofs.TabLaws.{at-tab, same-tab, set-tab}
@@ -19,7 +17,6 @@ use Rattle.model.specs.Table.{Ty, type_at}
 use Rattle.model.specs.Table.Ty.{bool, uint, pointer}
 use Rattle.model.specs.State.{classed, start_of, zero_of}
 use Rattle.model.specs.State.Value.{Class}
-use Rattle.prepared.specs.contracts.Form.{the_type as form}
 use Rattle.prepared.specs.declared.Frame.{Frame}
 use Rattle.prepared.specs.declared.Form.{Form}
 use Rattle.prepared.specs.declared.Form.TheVariants.{Bool as FBool, Uint as FUint, Class as FClass, Pointer as FPointer}
@@ -28,14 +25,14 @@ use Rattle.machine.specs.CodeFresh.{fresh_machine, fresh_vars, start_by_form, st
 
 -- ---- the number that a variable starts with, by its form
 module _ (t : List ℕ) (f : Frame) (i : ℕ) where
-  pub start-other : {s : Form} → s ≡ form_in t f i → OneOf (0 ∷ 1 ∷ 3 ∷ []) (tag_of form s) → 0 ≡ start_number t f i
+  pub start-other : {s : Form} → s ≡ form_in t f i → s ≢ FClass → 0 ≡ start_number t f i
   unfolding start_number
   start-other {s} e h = go s h ∙ ap (start_by_form (places f)) e
     where
-      go : (s : Form) → OneOf (0 ∷ 1 ∷ 3 ∷ []) (tag_of form s) → 0 ≡ start_by_form (places f) s
+      go : (s : Form) → s ≢ FClass → 0 ≡ start_by_form (places f) s
       go FBool h = refl
       go FUint h = refl
-      go FClass h = absurd (miss (0 ∷ 1 ∷ 3 ∷ []) 2 tt h)
+      go FClass h = absurd (h refl)
       go FPointer h = refl
 
   -- a variable that holds a class is one of a reduced machine

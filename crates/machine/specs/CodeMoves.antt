@@ -14,7 +14,7 @@ use Rattle.model.specs.Step.{step}
 use Rattle.model.specs.Step.Move.{to, stop}
 use Rattle.prepared.specs.declared.Form.TheVariants.{Bool as FBool}
 use Rattle.prepared.specs.Own.{own_words, places_of, decls_of, rows_of, own_table, own_form}
-use Rattle.evaluators.specs.CodeAnswers.{failed}
+use Rattle.machine.specs.Reasons.{failed}
 use Rattle.machine.specs.declared.Machine.{Machine}
 use Rattle.machine.specs.declared.Move.{Move}
 use Rattle.machine.specs.declared.Move.TheVariants.{Goes, Puts, Writes, Lays, Enters, Leaves, Calls, Returns}

@@ -3,7 +3,7 @@ use Rattle.std.specs.Prelude.{ℕ, List}
 use Rattle.model.specs.State.{Value, Caller, State, position}
 use Rattle.model.specs.Step.{End as ModelEnd}
 use Rattle.model.specs.Step.End.{done, assert_false, assume_false, failed, want_of_cells, out_of_steps, choice_not_allowed, no_choice_left, list_full, too_deep}
-use Rattle.evaluators.specs.Reasons.{reason_of}
+use Rattle.machine.specs.Reasons.{reason_of}
 use Rattle.prepared.specs.declared.Frame.{Frame}
 use Rattle.prepared.specs.View.{vars_of, arrays_of, table_for}
 use Rattle.prepared.specs.Own.{own_vars, own_table}

@@ -46,11 +46,8 @@ impl Machine {
         ensures { result ≡ fresh_machine t.now f }
     {
         let mut numbers = [0u32; 32];
-        let mut i: usize = 0;
-        let decls = f.counts.decls;
-        while i < decls {
+        for i in 0..f.counts.decls {
             numbers[i] = start_number(t, f, i);
-            i += 1;
         }
         let mut m = Machine::blank();
         m.numbers = numbers;

@@ -5,10 +5,29 @@ mod fresh; // fresh.rt: a fresh record and a blank one
 pub mod steps; // steps.rt: the steps
 
 use calls::{CALLERS, LOCALS, STACK};
-use evaluators::answers::{Failure, Reason};
+
+// Why an operand or a row failed (rule 2.36).
+#[derive(Clone, Copy, PartialEq, Eq)]
+pub enum Reason {
+    SumTooLarge,
+    BelowZero,
+    WithoutArray,
+    PastLength,
+    CounterTooLarge,
+}
+
+// Why there is no value, of an operand, a row or a run: it failed, with its reason; a choice is not allowed; no choice is left; or stuck, the
+// outcome that is no end.
+#[derive(Clone, Copy)]
+pub enum Failure {
+    Fails(Reason),
+    BadChoice,
+    NoChoice,
+    Stuck,
+}
 
 // The ends of a run (rule 2.29), a failure with its reason; list full is the choice writer's alone, too deep that of a call (rule 2.41).
-#[derive(Clone, Copy)]
+#[derive(Clone, Copy, PartialEq, Eq)]
 pub enum End {
     Done,
     AssertFalse,

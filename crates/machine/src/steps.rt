@@ -11,25 +11,11 @@ ghost use Rattle.machine.specs.CodeMoves.{passed, with_value, with_laid, entered
 use crate::{Machine, Move};
 use calls::{Stood, call, give_back};
 
-// An array's shape.
-fn shape_of(reduced: bool) -> u8
-    ensures { result ≡ (if reduced then 1 else 0) }
-{
-    if reduced {
-        return 1;
-    }
-    0
-}
-
 // Zeroes all cells.
 pub fn zero_all(cells: &mut [u32])
     ensures { cells.new ≡ replicate (length cells.old) 0 }
 {
-    let mut i = 0;
-    while i < cells.len() {
-        cells[i] = 0;
-        i += 1;
-    }
+    cells.fill(0);
 }
 
 // Zeroes n cells from a place on.
@@ -80,7 +66,7 @@ impl Machine {
         lengths[i] = len;
         self.lengths = lengths;
         let mut shapes = self.shapes;
-        shapes[i] = shape_of(reduced);
+        shapes[i] = u8::from(reduced);
         self.shapes = shapes;
         self.count = self.count + 1;
         let mut numbers = self.numbers;

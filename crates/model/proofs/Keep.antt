@@ -43,7 +43,8 @@ set-fits P (x ∷ l) zero v d h k (suc i) = h (suc i)
 set-fits P (x ∷ l) (suc a) v d h k zero = h 0
 set-fits P (x ∷ l) (suc a) v d h k (suc i) = set-fits P l a v d (λ j. h (suc j)) k i
 
-pub cleared-fits : (F : ℕ → Type 0) → F 0 → (s n : ℕ) (cs : List ℕ) → s + n ≤ length cs → ((i : ℕ) → F (get_or cs i 0)) → (i : ℕ) → F (get_or (cleared s n cs) i 0)
+pub cleared-fits : (F : ℕ → Type 0) → F 0 → (s n : ℕ) (cs : List ℕ) → s + n ≤ length cs → ((i : ℕ) → F (get_or cs i 0)) → (i : ℕ)
+    → F (get_or (cleared s n cs) i 0)
 cleared-fits F z s n cs h k i =
     split s i (λ l. split (s + n) i (λ o. subst F (sym (cleared-after s n cs h i o)) (k i))
     (λ o. subst F (sym (ap (λ (j : ℕ). get_or (cleared s n cs) j 0) (omega arith) ∙ cleared-in s n cs h (i - s) (omega arith))) z))
@@ -82,10 +83,12 @@ module _ {m : MachineKind} {ps : List ℕ} {extra : Extra} {ks : List Bool} {pa 
   first-keeps : (i j : ℕ) → i < length pa → keeps ps (array_at ra i) j ≡ true → keeps qs (array_at pa i) j ≡ true
   first-keeps i j h g = kept-also m ps (array_at pa i).reduced (array_at ra i).reduced j (A.also i h) g
 
-  first-in : (i j : ℕ) → i < length pa → j < (array_at pa i).len → keeps qs (array_at pa i) j ≡ true → index_of qs (array_at pa i) j < size_of qs (array_at pa i)
+  first-in : (i j : ℕ) → i < length pa → j < (array_at pa i).len → keeps qs (array_at pa i) j ≡ true
+      → index_of qs (array_at pa i) j < size_of qs (array_at pa i)
   first-in i j h k g = index_in qs (array_at pa i).reduced _ j k g
 
-  second-in : (i j : ℕ) → i < length pa → j < (array_at pa i).len → keeps ps (array_at ra i) j ≡ true → index_of ps (array_at ra i) j < size_of ps (array_at ra i)
+  second-in : (i j : ℕ) → i < length pa → j < (array_at pa i).len → keeps ps (array_at ra i) j ≡ true
+      → index_of ps (array_at ra i) j < size_of ps (array_at ra i)
   second-in i j h k g = index_in ps (array_at ra i).reduced _ j (rw (A.len i h) k) g
 
   -- one cell of two places is that of one array and place
@@ -117,12 +120,13 @@ module _ {m : MachineKind} {ps : List ℕ} {extra : Extra} {ks : List Bool} {pa 
       flag = A.flag;
       also = A.also;
       len = A.len;
-      equal = λ i' h' j' k' g'. elim (ℕ_discrete ((array_at pa i').start + index_of qs (array_at pa i') j') ((array_at pa i).start + index_of qs (array_at pa i) j)) [
-        | yes e ↦ same (first-same i j i' j' h k (first-keeps i j h g) h' k' (first-keeps i' j' h' g') e)
-        | no e ↦ let ne : (array_at ra i').start + index_of ps (array_at ra i') j' ≢ (array_at ra i).start + index_of ps (array_at ra i) j =
-            λ q. e (both-same (second-same i j i' j' h k g h' k' g' q)) in
-            rw (get_or-set_other pc _ _ x 0 e, get_or-set_other rc _ _ x 0 ne) (A.equal i' h' j' k' g')
-      ];
+      equal = λ i' h' j' k' g'. elim
+          (ℕ_discrete ((array_at pa i').start + index_of qs (array_at pa i') j') ((array_at pa i).start + index_of qs (array_at pa i) j)) [
+            | yes e ↦ same (first-same i j i' j' h k (first-keeps i j h g) h' k' (first-keeps i' j' h' g') e)
+            | no e ↦ let ne : (array_at ra i').start + index_of ps (array_at ra i') j' ≢ (array_at ra i).start + index_of ps (array_at ra i) j =
+                λ q. e (both-same (second-same i j i' j' h k g h' k' g' q)) in
+                rw (get_or-set_other pc _ _ x 0 e, get_or-set_other rc _ _ x 0 ne) (A.equal i' h' j' k' g')
+          ];
       laid_first = laid-set qs A.laid_first _ x;
       laid_second = laid-set ps A.laid_second _ x;
       fewer = A.fewer;
@@ -140,7 +144,8 @@ module _ {m : MachineKind} {ps : List ℕ} {extra : Extra} {ks : List Bool} {pa 
               get_or-set_same rc _ x 0 (inside ps A.laid_second i (omega (arith, A.number)) _ (second-in i j h k g)),
             )
 
-        both-same : {i' j' : ℕ} → (i' ≡ i) × (j' ≡ j) → (array_at pa i').start + index_of qs (array_at pa i') j' ≡ (array_at pa i).start + index_of qs (array_at pa i) j
+        both-same : {i' j' : ℕ} → (i' ≡ i) × (j' ≡ j)
+            → (array_at pa i').start + index_of qs (array_at pa i') j' ≡ (array_at pa i).start + index_of qs (array_at pa i) j
         both-same u = rw (u.0, u.1)
 
     -- a place that only the first keeps

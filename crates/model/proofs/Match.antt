@@ -213,7 +213,8 @@ module _ {m : MachineKind} {F : ℕ → Type 0} {A B C D : Type 0} {S : A → B 
       go cs o xs (both-fail e) w q = ends cs xs _ (both-fail (λ ds. ap (λ o. next o l) (e ds))) (λ h. ((w h).1, ap (λ o. given o zs) (sym (w h).0), (w h).2)) q
       go cs o xs (both-bad e) w q = ends cs xs _ (both-bad (λ ds. ap (λ o. next o l) (e ds))) (λ h. ((w h).1, ap (λ o. given o zs) (sym (w h).0), (w h).2)) q
       go cs o xs (both-none e) w q = ends cs xs _ (both-none (ap (λ o. next o l) e)) (λ h. ((w h).1, ap (λ o. given o zs) (sym (w h).0), (w h).2)) q
-      go cs o xs (both-stuck e) w q = ends cs xs _ (both-stuck (λ ds. ap (λ o. next o l) (e ds))) (λ h. ((w h).1, ap (λ o. given o zs) (sym (w h).0), (w h).2)) q
+      go cs o xs (both-stuck e) w q = ends cs xs _ (both-stuck (λ ds. ap (λ o. next o l) (e ds)))
+          (λ h. ((w h).1, ap (λ o. given o zs) (sym (w h).0), (w h).2)) q
 
   -- where the second part is handed nothing
   pub matches-with : Matches m F S f r ys → ((a : A) (b : B) → S a b → Matches m F U (k a) (l b) []) → Matches m F U (f >>= k) (r >>= l) ys

@@ -146,7 +146,8 @@ module _ {m : MachineKind} {F : ℕ → Type 0} where
 load-in : (ps : List ℕ) {rs : List Array} {cells : List ℕ} → Laid ps rs cells → (i q : ℕ) → ltb i (length rs) ≡ true → ltb q (array_at rs i).len ≡ true
     → (cs : List ℕ)
     → reduced_load ps rs cells (ptr (suc i) q) cs
-    ≡ (if◌then◌else◌ {A = Work ℕ} (keeps ps (array_at rs i) q) (give (get_or cells ((array_at rs i).start + index_of ps (array_at rs i) q) 0)) (choose (λ v. true))) cs
+    ≡ (if◌then◌else◌ {A = Work ℕ} (keeps ps (array_at rs i) q) (give (get_or cells ((array_at rs i).start + index_of ps (array_at rs i) q) 0))
+    (choose (λ v. true))) cs
 load-in ps {rs} {cells} L i q d e cs = go (keeps ps (array_at rs i) q) refl
   where
     go : (g : Bool) → keeps ps (array_at rs i) q ≡ g
@@ -280,7 +281,8 @@ module _ {m : MachineKind} {F : ℕ → Type 0} {ps : List ℕ} {extra : Extra} 
 
   match-rule : (w : Ty) (k : Node) → PlainNode k → (a b c : ℕ) → F a → {ev ev' : (v : Ty) → ℕ → Work (Of v)} {choices_of : Ty → ℕ → List ℕ}
       → ((v : Ty) (n : ℕ) → Match m F (FitOf F v) (ev v n) (ev' v n) (choices_of v n))
-      → Match m F (FitOf F w) (rule fs (contents_of p) w (node_in m (us a) k) a b c ev) (rule ps (contents_of r) w (node_in reduced (marked_uint t a) k) a b c ev')
+      → Match m F (FitOf F w) (rule fs (contents_of p) w (node_in m (us a) k) a b c ev)
+      (rule ps (contents_of r) w (node_in reduced (marked_uint t a) k) a b c ev')
       (choices_rule ps t ks p w k a b c ev choices_of)
   unfolding rule choices_rule
   match-rule w variable h a b c k ih = match-variable w a b c _ _

@@ -118,7 +118,8 @@ all_same zero f g h = refl
 all_same (suc n) f g h = rw (all_same n f g (λ i l. h i (omega arith)), h n (omega arith))
 
 -- two classes, or a value and itself, have one form
-form-seen : (ps : List ℕ) (b : Bool) (v w o q : Value) → SameVariable ps b v w → SameVariable ps b o q → eqb (form_of w) (form_of q) ≡ eqb (form_of v) (form_of o)
+form-seen : (ps : List ℕ) (b : Bool) (v w o q : Value) → SameVariable ps b v w → SameVariable ps b o q
+    → eqb (form_of w) (form_of q) ≡ eqb (form_of v) (form_of o)
 form-seen ps false v w o q x y = rw (x, y)
 form-seen ps true v w o q x y = rw (ap form_of x.1, ap form_of x.2, ap form_of y.1, ap form_of y.2)
 
@@ -219,7 +220,8 @@ module _ {m : MachineKind} {F : ℕ → Type 0} (ps : List ℕ) (extra : Extra) 
     match-loop {p} {r} A n loop h x y fx fy {out} {out'} o = go (us (row_at t n).a) refl (marked_uint t (row_at t n).a) refl
       where
         told : only (row_at t n).a ≡ true
-            → Matches m F (Moves extra (L ks)) (give x >>= λ a. give y >>= λ b. enter v p n (Uint a) a b out) (loop_at ps u r n class_loop x y out') (x ∷ y ∷ [])
+            → Matches m F (Moves extra (L ks)) (give x >>= λ a. give y >>= λ b. enter v p n (Uint a) a b out) (loop_at ps u r n class_loop x y out')
+            (x ∷ y ∷ [])
         told s =
             match-bind (match-told (λ w. eqb (class ps w) (class ps x)) x (eq-eqb (class ps x) (class ps x) refl) fx)
             (λ a fa. match-bind (match-told (λ w. eqb (class ps w) (class ps y)) y (eq-eqb (class ps y) (class ps y) refl) fy)

@@ -84,7 +84,8 @@ module _ (ps : List ℕ) where
   starts-after (a ∷ rs) b (suc i) s h = omega (arith, starts-after rs (b + size_of ps a) i s.1 (le_of_suc-le-suc h))
 
   -- an earlier array ends before a later one starts
-  before : (rs : List Array) (b i j : ℕ) → InSequence ps b rs → i < j → j < length rs → (array_at rs i).start + size_of ps (array_at rs i) ≤ (array_at rs j).start
+  before : (rs : List Array) (b i j : ℕ) → InSequence ps b rs → i < j → j < length rs
+      → (array_at rs i).start + size_of ps (array_at rs i) ≤ (array_at rs j).start
   before [] b i j s h k = absurd (not-suc-le-zero k)
   before (a ∷ rs) b i zero s h k = absurd (not-suc-le-zero h)
   before (a ∷ rs) b zero (suc j) s h k = omega (arith, s.0, starts-after rs (b + size_of ps a) j s.1 (le_of_suc-le-suc k))

@@ -242,7 +242,8 @@ module _ (t : Table) (A : Accepted plain t) where
   unfolding row_suits_mark
   row-suit r =
       rw (R.kind r, R.a r, same-marked_uint t.words (row_at t r).a, same-marked_pointer t.words (row_at t r).a)
-      (row-suits t (row_kind (row_at t r).kind) (row_at t r).a (row_at t r).b (row_at t r).c (marked_uint t (row_at t r).a) (marked_pointer t (row_at t r).a) refl
+      (row-suits t (row_kind (row_at t r).kind) (row_at t r).a (row_at t r).b (row_at t r).c (marked_uint t (row_at t r).a)
+      (marked_pointer t (row_at t r).a) refl
       (plain_rows t A r))
 
   -- ---- 17

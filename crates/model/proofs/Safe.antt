@@ -233,7 +233,8 @@ module _ (ps : List ℕ) (m : MachineKind) (t : Table) (s : State) (S : Sound ps
     unfolding eval_f
     safe-eval_f F zero w n h k e = absurd (not-suc-le-zero h)
     safe-eval_f F (suc f) w n h k e =
-        safe-bind (safe-rule w (node_kind (node_at t n).kind) (node_at t n).a (node_at t n).b (node_at t n).c n (F n k) e (below n (eval_f ps (contents_of s) t f))
+        safe-bind
+        (safe-rule w (node_kind (node_at t n).kind) (node_at t n).a (node_at t n).b (node_at t n).c n (F n k) e (below n (eval_f ps (contents_of s) t f))
         (λ v o l q. rw (lt-ltb o n l) (safe-eval_f F f v o (omega arith) (omega arith) q))) (safe-present w)
 
   -- a node that has the type its user takes

@@ -158,7 +158,8 @@ uses-right t = record {
   called = is-called t;
 }
   where
-    named : (r : ℕ) → allowed (home t r) (line_uses t (node_uses t) (row_roles (row_kind (row_at t r).kind)) (row_at t r).a (row_at t r).b (row_at t r).c) ≡ true
+    named : (r : ℕ) → allowed (home t r)
+        (line_uses t (node_uses t) (row_roles (row_kind (row_at t r).kind)) (row_at t r).a (row_at t r).b (row_at t r).c) ≡ true
         → (v : ℕ) → RowUses t r v → may_use t (home t r) v ≡ true
     named r e v (names h) =
         allowed-variable t (home t r) v (operand-allowed t (home t r) (node_uses t) (row_roles (row_kind (row_at t r).kind)) (row_at t r) e a_variable v h)

@@ -5,7 +5,7 @@ use Prim.Native.Nat.{ℕ}
 use native.Mathlib.Nat.{sub-zero}
 use mathlib.Core.List.{List, [], append-nil}
 use lib.ListN.{length}
-use Rattle.table.specs.declared.Verdict.TheVariants.{Passes}
+use Rattle.table.specs.Verdict.Verdict.{Passes}
 use Rattle.table.specs.Checks.{table_check, and_then}
 use Rattle.table.proofs.Passing.{passing, accepted, both-pass}
 use Rattle.model.specs.State.{State}

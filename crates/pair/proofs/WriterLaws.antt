@@ -3,7 +3,7 @@
 use mathlib.Core.Path.{◌≡◌, refl, sym, ap, ◌∙◌}
 use mathlib.Core.Logic.{◌≢◌}
 use native.Mathlib.Decide.{dec_le}
-use Prim.Native.Nat.{ℕ, ◌+◌, ◌-◌, ◌≤◌}
+use Prim.Native.Nat.{ℕ, ◌-◌, ◌≤◌}
 use native.Mathlib.Omega.{arith as numbers}
 use mathlib.Core.Bool.{Bool, true, false, false≢true}
 use mathlib.Core.List.{List, [], ◌∷◌, ◌++◌}
@@ -11,8 +11,10 @@ use lib.ListN.{length, take, drop, length-append}
 use lib.Seq.{take_at}
 use borrow.Author.Tests.{eq-eqb}
 use Rattle.choices.specs.Ends.{report_of}
-use Rattle.table.specs.declared.Verdict.{Verdict}
-use Rattle.table.specs.declared.Verdict.TheVariants.{Passes, Refused}
+use Rattle.std.specs.Prelude.{Ok, Err}
+use Rattle.table.specs.declared.verdict.Refusal.{Refusal}
+use Rattle.table.specs.Verdict.{Verdict, check_number, refused_as}
+use Rattle.table.specs.Verdict.Verdict.{Passes, Refused}
 use Rattle.table.specs.Checks.{table_check, and_then}
 use Rattle.table.proofs.Passing.{passing, accepted, both-pass}
 use Rattle.model.specs.Class.{pair}
@@ -37,24 +39,14 @@ use Rattle.choices.proofs.Demand3Proof.{places-accepted}
 use Rattle.runs.specs.declared.Ran.{Ran}
 use Rattle.reduction.specs.Reduction.{places_check}
 use Rattle.runs.specs.Checks.{frame_of}
-use Rattle.runs.specs.declared.Answered.{Answered}
 use Rattle.choices.specs.Checks.{writer_checks}
 use Rattle.choices.specs.Answers as writer
 use Rattle.choices.specs.Answers.Said.{writes}
 use Rattle.pair.specs.declared.Line.{Line}
-use Rattle.pair.specs.declared.Paired.{Paired}
 use Rattle.pair.specs.Pairs.{line_of, said_of, line_said, written_choices, lines_said, table_said}
 use Rattle.pair.specs.Pairs.LineSaid.{line}
 use Rattle.pair.specs.Pairs.PairSaid.{lines}
 use Rattle.pair.specs.CodeLines.{PlainOf}
-
--- two answers that say the same have one verdict
-same-verdict : (v w : Verdict) (cells cells' l l' m m' : List ℕ) (got report : Report) (n k : ℕ)
-    → writer.said_by v cells l (writes got n m) ≡ writer.said_by w cells' l' (writes report k m') → v ≡ w
-same-verdict Passes Passes cells cells' l l' m m' got report n k e = refl
-same-verdict Passes (Refused number place) cells cells' l l' m m' got report n k e = absurd (let z : ◌≡◌ {A = ℕ} 0 1 = cc in omega numbers)
-same-verdict (Refused number place) Passes cells cells' l l' m m' got report n k e = absurd (let z : ◌≡◌ {A = ℕ} 0 1 = cc in omega numbers)
-same-verdict (Refused number place) (Refused number' place') cells cells' l l' m m' got report n k e = cc
 
 -- a last check that passes adds nothing
 last-passes : (v w : Verdict) → and_then v (and_then w Passes) ≡ and_then v w
@@ -68,12 +60,20 @@ unfolding writer_checks
 checks-are c1 c2 t size n = rw (eq-eqb size 4096 n) (last-passes (table_check plain t) (places_check (pair c1 c2)))
 
 -- what the writer wrote, having passed
-wrote-is : (v : Verdict) → v ≡ Passes → (cells l l' : List ℕ) (got report : Report) (n : ℕ)
-    → writer.said_by v cells l (writes got n l) ≡ writer.wrote_said l' report
+wrote-is : (l l' : List ℕ) (got report : Report) (n : ℕ) → writes got n l ≡ writer.wrote_said l' report
     → (n ≡ length (writer.numbers_of report)) × (l ≡ writer.numbers_of report ++ drop (length (writer.numbers_of report)) l') × (got ≡ report)
-wrote-is v p cells l l' got report n e =
-    let e' : writes got n l ≡ writer.wrote_said l' report = rw p at e in
-    (cc, cc, cc)
+wrote-is l l' got report n e = (cc, cc, cc)
+
+-- what is said of a writer that was refused, or was not
+refused-by : (v : Verdict) (e : Refusal) (cells cells' l l' m : List ℕ) (report : Report) (n : ℕ)
+    → writer.Said.refusal (check_number e.check) e.place cells l ≡ writer.said_by v cells' l' (writes report n m) → v ≡ refused_as e
+refused-by Passes e cells cells' l l' m report n h = absurd (let z : ◌≡◌ {A = ℕ} 0 1 = cc in omega numbers)
+refused-by (Refused number place) e cells cells' l l' m report n h = cc
+
+passed-by : (v : Verdict) (cells' l l' m : List ℕ) (got report : Report) (n k : ℕ)
+    → writes got n l ≡ writer.said_by v cells' l' (writes report k m) → v ≡ Passes
+passed-by Passes cells' l l' m got report n k h = refl
+passed-by (Refused number place) cells' l l' m got report n k h = absurd (let z : ◌≡◌ {A = ℕ} 0 1 = cc in omega numbers)
 
 -- a table and a pair that passed, and the numbers that the writer counted, which are the first of the list (rule 8.6)
 pub record Passed (t : List ℕ) (c1 c2 limit : ℕ) (list : List ℕ) (ran : Ran) : Type 0 where
@@ -85,42 +85,41 @@ pub record Passed (t : List ℕ) (c1 c2 limit : ℕ) (list : List ℕ) (ran : Ra
       × (ended (end_of ran.end) ran.steps last (take ran.used list) ≡ writer_run (pair c1 c2) t limit 8192)
 
 -- an answer of the writer, which was lent cells of the stated size and a list of 8,192 words
-module _ (t : List ℕ) (c1 c2 limit : ℕ) (cells cells' lent list : List ℕ) (a : Answered)
-    (e : writer.said_of t (frame_of t false c1 c2) a cells' list ≡ writer.writer_said (pair c1 c2) t cells lent limit) (size : length cells ≡ 4096) where
-  verdict-is : a.verdict ≡ and_then (table_check plain t) (places_check (pair c1 c2))
-  unfolding writer.writer_said
-  verdict-is =
-      same-verdict a.verdict (writer_checks (pair c1 c2) t (length cells)) cells' cells list lent list _
-      (report_of t (frame_of t false c1 c2) a.ran cells' list) _ a.ran.used _ e
-      ∙ checks-are c1 c2 t (length cells) size
+module _ (t : List ℕ) (c1 c2 limit : ℕ) (cells cells' lent list : List ℕ) (size : length cells ≡ 4096) where
+  -- a refusal
+  pub refused-said : (e : Refusal) → writer.said_of t (frame_of t false c1 c2) (Err e) cells' list ≡ writer.writer_said (pair c1 c2) t cells lent limit
+      → said_of (Err e) ≡ table_said (pair c1 c2) limit t
+  unfolding writer.writer_said table_said
+  refused-said e h =
+      let v = refused-by (writer_checks (pair c1 c2) t (length cells)) e cells' cells list lent _ _ _ h in
+      rw (← checks-are c1 c2 t (length cells) size, v)
 
-  pub refused-said : {number place : ℕ} → a.verdict ≡ Refused number place → (r : Paired) → r.verdict ≡ a.verdict → said_of r ≡ table_said (pair c1 c2) limit t
-  unfolding table_said
-  refused-said w r q = rw (q, ← verdict-is, w)
-
-  module _ (room : length lent ≡ 8192) (p : a.verdict ≡ Passes) where
+  module _ (ran : Ran) (e : writer.said_of t (frame_of t false c1 c2) (Ok ran) cells' list ≡ writer.writer_said (pair c1 c2) t cells lent limit)
+      (room : length lent ≡ 8192) where
     abbrev written : List ℕ
     written = written_choices (pair c1 c2) limit t
 
+    passes : writer_checks (pair c1 c2) t (length cells) ≡ Passes
+    unfolding writer.writer_said
+    passes = passed-by (writer_checks (pair c1 c2) t (length cells)) cells list lent _ _ _ _ _ e
+
     passes-said : writer.writer_said (pair c1 c2) t cells lent limit ≡ writer.wrote_said lent (writer_run (pair c1 c2) t limit 8192)
     unfolding writer.writer_said
-    passes-said = rw (checks-are c1 c2 t (length cells) size, ← verdict-is, p, room)
+    passes-said = rw (passes, room)
 
-    wrote : (a.ran.used ≡ length written) × (list ≡ written ++ drop (length written) lent)
-        × (report_of t (frame_of t false c1 c2) a.ran cells' list ≡ writer_run (pair c1 c2) t limit 8192)
-    wrote =
-        wrote-is a.verdict p cells' list lent (report_of t (frame_of t false c1 c2) a.ran cells' list) (writer_run (pair c1 c2) t limit 8192)
-        a.ran.used (e ∙ passes-said)
+    wrote : (ran.used ≡ length written) × (list ≡ written ++ drop (length written) lent)
+        × (report_of t (frame_of t false c1 c2) ran cells' list ≡ writer_run (pair c1 c2) t limit 8192)
+    wrote = wrote-is list lent (report_of t (frame_of t false c1 c2) ran cells' list) (writer_run (pair c1 c2) t limit 8192) ran.used (e ∙ passes-said)
 
-    pub passed : Passed t c1 c2 limit list a.ran
+    pub passed : Passed t c1 c2 limit list ran
     passed =
-        let both = both-pass (table_check plain t) (places_check (pair c1 c2)) (sym verdict-is ∙ p) in
+        let both = both-pass (table_check plain t) (places_check (pair c1 c2)) (sym (checks-are c1 c2 t (length cells) size) ∙ passes) in
         record {
           table = both.0;
           places = both.1;
           fits = omega (numbers, wrote.0, ap length wrote.1, length-append written (drop (length written) lent));
-          counted = ap (take a.ran.used) wrote.1 ∙ take_at written (drop (length written) lent) a.ran.used (sym wrote.0);
-          wrote = (state_of t (frame_of t false c1 c2) a.ran.«record» cells', refl, wrote.2);
+          counted = ap (take ran.used) wrote.1 ∙ take_at written (drop (length written) lent) ran.used (sym wrote.0);
+          wrote = (state_of t (frame_of t false c1 c2) ran.«record» cells', refl, wrote.2);
         }
 
 -- ---- the plain run's line, from what the writer handed back

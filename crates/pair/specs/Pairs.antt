@@ -1,12 +1,13 @@
 -- What the bench program answers to an input (section 8 of the rules).
-use Rattle.std.specs.Prelude.{ℕ, ◌*◌, List, [], length, take, drop, replicate, ltb}
+use Rattle.std.specs.Prelude.{ℕ, ◌*◌, List, [], length, take, drop, replicate, ltb, Result, Ok, Err}
 use Rattle.machine.specs.View.{end_of}
 use Rattle.std.specs.Prelude.{if◌then◌else◌}
-use Rattle.table.specs.declared.Verdict.{Verdict}
-use Rattle.table.specs.declared.Verdict.TheVariants.{Passes, Refused}
+use Rattle.table.specs.declared.verdict.Refusal.{Refusal}
+use Rattle.table.specs.Verdict.{Verdict, check_number}
+use Rattle.table.specs.Verdict.Verdict.{Passes, Refused}
 use Rattle.table.specs.Checks.{table_check, and_then}
-use Rattle.file.specs.declared.Read.{Read}
-use Rattle.file.specs.declared.Read.TheVariants as File
+use Rattle.file.specs.Read.{Read}
+use Rattle.file.specs.Read.Read.{Lines, Refused as NotRead}
 use Rattle.file.specs.Word.{word_at}
 use Rattle.file.specs.Reading.{read_answer, read_buffer}
 use Rattle.model.specs.Class.{pair}
@@ -44,8 +45,9 @@ line_from ran = record { end = ran.end; row = ran.«record».machine.row; steps 
 abbrev pub line_of : Line → LineSaid
 line_of l = line (end_of l.end) l.row l.steps l.used
 
-abbrev pub said_of : Paired → PairSaid
-said_of a = said_by a.verdict (lines (line_of a.plain) (line_of a.pair))
+abbrev pub said_of : Result Paired Refusal → PairSaid
+said_of (Ok both) = lines (line_of both.plain) (line_of both.pair)
+said_of (Err refused) = refusal (check_number refused.check) refused.place
 
 -- a run's line, its choices being those of the list (rule 8.3)
 abbrev pub line_said : List ℕ → Report → LineSaid
@@ -69,8 +71,8 @@ table_said ps limit P = said_by (and_then (table_check plain P) (places_check ps
 
 -- by what the reader answers: the file's checks, 1 to 3, come first (rule 6.2); the table is the first of the words, four to a line
 abbrev pub read_said : List ℕ → ℕ → Read → List ℕ → PairSaid
-read_said ps limit (File.Refused number place) words = refusal number place
-read_said ps limit (File.Lines n) words = table_said ps limit (take (4 * n) words)
+read_said ps limit (NotRead number place) words = refusal number place
+read_said ps limit (Lines n) words = table_said ps limit (take (4 * n) words)
 
 -- the reader is lent 5,248 words; a file above 22,016 bytes gets 1, so an input may be of any length (rule 8.1)
 unfoldable pub file_said : List ℕ → ℕ → List ℕ → PairSaid

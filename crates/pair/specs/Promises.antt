@@ -1,6 +1,6 @@
 -- What is proved of the two lines: proofs/PairPromises.
 use Rattle.std.specs.Prelude.{◌≡◌, ℕ, ◌≤◌, false, List, length}
-use Rattle.table.specs.declared.Verdict.TheVariants.{Passes}
+use Rattle.table.specs.Verdict.Verdict.{Passes}
 use Rattle.table.specs.Checks.{table_check, and_then}
 use Rattle.model.specs.State.MachineKind.{plain}
 use Rattle.model.specs.Step.{End}

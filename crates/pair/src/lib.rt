@@ -9,7 +9,7 @@ ghost use Rattle.pair.specs.Pairs.{said_of, pair_said};
 
 use file::word::word_at;
 use machine::End;
-use table::Verdict;
+use table::{Check, Refusal};
 use tables::run_file;
 
 // What a line of output says of a run: its end, where it stands, the steps and the choices used.
@@ -21,37 +21,19 @@ pub struct Line {
     pub used: u64,
 }
 
-// The answer to an input: whether it was refused; the lines of the two runs are no part of a refusal.
+// The lines of both runs of an input.
 #[derive(Clone, Copy)]
 pub struct Paired {
-    pub verdict: Verdict,
     pub plain: Line,
     pub pair: Line,
 }
 
-// A refusal.
-fn refused(verdict: Verdict) -> Paired
-    ensures { result.verdict ≡ verdict }
-{
-    let none = Line {
-        end: End::Done,
-        row: 0,
-        steps: 0,
-        used: 0,
-    };
-    Paired {
-        verdict,
-        plain: none,
-        pair: none,
-    }
-}
-
 // Both runs of an input: the pair and the limit of steps, three words, and then a file.
-pub fn pair_run(input: &[u8]) -> Paired
+pub fn pair_run(input: &[u8]) -> Result<Paired, Refusal>
     ensures { said_of result ≡ pair_said input.now }
 {
     if input.len() < 12 {
-        return refused(Verdict::Refused(1, 0));
+        return Err(Refusal::of_whole(Check::FileLength));
     }
     let c1 = word_at(input, 0);
     let c2 = word_at(input, 4);

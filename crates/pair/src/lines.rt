@@ -1,6 +1,6 @@
 // The lines of the two runs of a table that passes, with a pair that passes.
 ghost use Rattle.std.specs.Prelude.{◌≡◌, ◌≤◌, [], length};
-ghost use Rattle.table.specs.declared.Verdict.TheVariants.{Passes};
+ghost use Rattle.table.specs.Verdict.Verdict.{Passes};
 ghost use Rattle.table.specs.Checks.{table_check};
 ghost use Rattle.model.specs.State.MachineKind.{plain};
 ghost use Rattle.model.specs.Reduce.{reduce};
@@ -21,12 +21,9 @@ pub(crate) const TABLE_WORDS: usize = 5248;
 fn line_of(ran: Ran) -> Line
     ensures { result ≡ line_from ran }
 {
-    let end = ran.end;
-    let record = ran.record;
-    let machine = record.machine;
     Line {
-        end,
-        row: machine.row,
+        end: ran.end,
+        row: ran.record.machine.row,
         steps: ran.steps,
         used: ran.used,
     }
@@ -38,8 +35,7 @@ pub(crate) fn plain_line(t: &[u32], limit: u32) -> Line
     ensures { line_of result ≡ line_said [] (plain_run t.now limit) }
 {
     let mut cells = [0u32; Machine::PLAIN_CELLS];
-    let a = run_plain(t, &mut cells, limit);
-    let ran = a.ran;
+    let ran = run_plain(t, &mut cells, limit).unwrap();
     line_of(ran)
 }
 
@@ -48,10 +44,9 @@ fn reduced_line(t: &[u32], c1: u32, c2: u32, lent: &mut [u32], list: &[u32], lim
     requires { (table_check plain t.now ≡ Passes) × (places_check (pair c1 c2) ≡ Passes) × (length lent.old ≡ length t.now) }
     ensures { line_of result ≡ line_said list.now (reduced_run (pair c1 c2) (reduce t.now) limit list.now) }
 {
-    reduce_table(t, c1, c2, lent);
+    reduce_table(t, c1, c2, lent).unwrap();
     let mut cells = [0u32; Machine::REDUCED_CELLS];
-    let a = run_reduced(lent, c1, c2, &mut cells, list, limit);
-    let ran = a.ran;
+    let ran = run_reduced(lent, c1, c2, &mut cells, list, limit).unwrap();
     line_of(ran)
 }
 

@@ -10,35 +10,23 @@ use std::io::{Read, Write};
 // One byte more than the longest input that is not refused for its length: 12 bytes and a file of 22,016.
 const ROOM: usize = 22029;
 
-// How many bytes a read puts at the front of a lent buffer: none at the end of the input, or where it fails.
-fn read_some<R: Read>(from: &mut R, room: &mut [u8]) -> usize
-    ensures { result ≤ length room.new }
-{
-    match from.read(room) {
-        Ok(n) => n,
-        Err(_) => 0,
-    }
-}
-
 // Reads until a lent buffer is full, the input ends or a read fails: how many bytes were put at the front.
 fn read_full<R: Read>(from: &mut R, room: &mut [u8]) -> usize
     ensures { result ≤ length room.new }
 {
-    let mut done: usize = 0;
+    let mut done = 0;
     while done < room.len() {
-        let n = read_some(from, &mut room[done..]);
-        if n == 0 {
-            return done;
+        match from.read(&mut room[done..]) {
+            Ok(0) | Err(_) => return done,
+            Ok(n) => done += n,
         }
-        done += n;
     }
     done
 }
 
 // Whether another read fails, as it does where the input cannot be read; at its end a read gives no bytes.
 fn cannot_read<R: Read>(from: &mut R) -> bool {
-    let mut byte = [0u8; 1];
-    from.read(&mut byte).is_err()
+    from.read(&mut [0u8; 1]).is_err()
 }
 
 // Writes a line to standard error; where that fails there is no one to tell.

@@ -10,6 +10,7 @@ use mathlib.Core.List.{List}
 use lib.ListN.{length, get_or, set, length-set}
 use lib.Seq.{get_or-set_same, get_or-set_other}
 use borrow.Author.Tests.{ne_eqb}
+use mir.Val.{bool_byte}
 use Rattle.std.specs.Prelude.{if◌then◌else◌}
 use Rattle.kinds.specs.Kinds.{machine_of}
 use Rattle.model.specs.Table.{type_of, marked, marked_uint}
@@ -20,13 +21,19 @@ use Rattle.prepared.specs.View.{table_for, form_for, form_in}
 use Rattle.prepared.specs.Own.{number_of_form}
 use Rattle.prepared.specs.CodeOwn.{Formed}
 
+-- ---- a flag as a number
+pub flag-number : (b : Bool) → bool_byte b ≡ (if b then 1 else 0)
+flag-number true = refl
+flag-number false = refl
+
 -- ---- by the declaration
 module _ (t : List ℕ) (f : Frame) (a : ℕ) where
   unclassed : marked_uint (table_for t f) a ≡ false → form_in t f a ≡ form_for (type_of (get_or t (4 * a) 0))
   unfolding form_in
   unclassed e = go f.classes
     where
-      go : (b : Bool) → (if classed (machine_of b) (table_for t f) a then FClass else form_for (type_of (get_or t (4 * a) 0))) ≡ form_for (type_of (get_or t (4 * a) 0))
+      go : (b : Bool) → (if classed (machine_of b) (table_for t f) a then FClass else form_for (type_of (get_or t (4 * a) 0)))
+          ≡ form_for (type_of (get_or t (4 * a) 0))
       go true = rw e
       go false = refl
 

@@ -5,4 +5,3 @@ pub mod VarLaws
 pub mod PasteLaws
 pub mod FormLaws
 pub mod OwnLaws
-pub mod OtherForms

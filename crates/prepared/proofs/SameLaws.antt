@@ -27,7 +27,8 @@ use Rattle.model.specs.Table.Row.{procedure, returns, call, no_row}
 use Rattle.model.specs.Work.{Work, ◌>>=◌, give, wrong}
 use Rattle.model.specs.State.{MachineKind, Loop, position, Caller, caller, most_callers, State, places_in}
 use Rattle.model.specs.Eval.{Contents, contents_of, Of, next_start, below, rule, present, eval_f, eval}
-use Rattle.model.specs.Step.{Move, with_loops, numbers_in, hand_over, with_work, argument, call_procedure, give_back, loop_at, repeat_loop, row_rule, step_at, step}
+use Rattle.model.specs.Step.{Move, with_loops, numbers_in, hand_over, with_work, argument, call_procedure, give_back}
+use Rattle.model.specs.Step.{loop_at, repeat_loop, row_rule, step_at, step}
 use Rattle.model.specs.Step.Move.{to, stop}
 use Rattle.model.specs.Step.End.{too_deep}
 use Rattle.model.specs.Writer.{given, choices_rule, choices_f, node_choices, loop_choices, repeat_choices, row_choices, step_choices}

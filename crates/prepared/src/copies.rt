@@ -7,9 +7,8 @@ pub fn copy(list: &mut [u32], at: usize, numbers: &[u32], n: usize)
     requires { (at + n ≤ length list.old) × (n ≤ length numbers.now) }
     ensures { list.new ≡ paste list.old at numbers.now n }
 {
-    let mut i: usize = 0;
-    while i < n {
+    // A loop: `copy_from_slice` keeps in memory what it copies from, and a step of a run then copies the record's loops several times more.
+    for i in 0..n {
         list[at + i] = numbers[i];
-        i += 1;
     }
 }

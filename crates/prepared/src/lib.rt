@@ -19,7 +19,7 @@ pub struct Frame {
 }
 
 // The form of value that a variable holds.
-#[derive(Clone, Copy)]
+#[derive(Clone, Copy, PartialEq, Eq)]
 pub enum Form {
     Bool,
     Uint,

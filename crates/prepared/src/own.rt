@@ -23,22 +23,9 @@ fn set_forms(t: &[u32], f: Frame, own: &mut [u32])
     requires { (f.counts.decls ≤ 32) × (128 ≤ length own.old) }
     ensures { Formed t.now f f.counts.decls own.old own.new }
 {
-    let decls = f.counts.decls;
-    let mut a: usize = 0;
-    while a < decls {
+    for a in 0..f.counts.decls {
         own[4 * a + 3] = number_of(form_of(t, f, a));
-        a += 1;
     }
-}
-
-// 1 for true, 0 for false.
-fn flag_of(b: bool) -> u32
-    ensures { result ≡ if b then 1 else 0 }
-{
-    if b {
-        return 1;
-    }
-    0
 }
 
 // The lines of each sort, at their place.
@@ -63,10 +50,9 @@ fn tell(f: Frame, own: &mut [u32])
 {
     let decls = f.counts.decls;
     let rows = f.counts.rows;
-    let flag = flag_of(f.classes);
     own[HEAD + 1] = f.c1;
     own[HEAD + 2] = f.c2;
-    own[HEAD + 3] = flag;
+    own[HEAD + 3] = u32::from(f.classes);
     own[HEAD + 5] = decls as u32;
     own[HEAD + 6] = rows as u32;
 }

@@ -19,14 +19,5 @@ pub fn class_in(own: &[u32; 5256], v: u32) -> u32
 pub fn is_tracked(own: &[u32; 5256], v: u32) -> bool
     ensures { result ≡ tracked (places_of own.now) v }
 {
-    if own[131] == 1 {
-        if own[129] == v {
-            return true;
-        }
-        if own[130] == v {
-            return true;
-        }
-        return false;
-    }
-    false
+    own[131] == 1 && (own[129] == v || own[130] == v)
 }

@@ -3,27 +3,25 @@
 use Prim.Native.Nat.{ℕ, zero, suc, ◌+◌, ◌<◌, ◌≤◌}
 use native.Mathlib.Omega.{arith}
 use native.Mathlib.Numerals.{add-one}
-use native.Mathlib.Decide.{dec_le}
 use mathlib.Core.Path.{◌≡◌, refl, sym, ap, ◌∙◌}
 use mathlib.Core.Bool.{Bool, true, false, not, ◌&&◌, ◌||◌, false≢true, true≢false}
 use mathlib.Core.List.{List}
 use lib.ListN.{get_or}
-use lib.Dec.{ltb, leb, eqb}
-use borrow.Author.Tests.{eqb-true, leb-true, ne_eqb}
-use Rattle.std.specs.Prelude.{if◌then◌else◌}
+use lib.Dec.{ltb, eqb}
+use borrow.Author.Tests.{eqb-true}
 use Rattle.lists.specs.Tab.{all}
-use Rattle.lists.proofs.TabLaws.{all-at, all_more, all-stop}
-use Rattle.lists.proofs.BoolLaws.{and_left}
-use Rattle.model.specs.Table.{Table, Row, row_kind, row_at, home, opening, open_at, between, marked, marked_uint}
+use Rattle.lists.proofs.TabLaws.{all_more, all-stop}
+use Rattle.model.specs.Table.{Table, Row, row_kind, row_at, home, opening, open_at, opens_procedure, marked, marked_uint}
 use Rattle.model.specs.Table.Row.{skip, assign, store, assert, assume, array, loop, loop_end, reduced_store, reduced_array, class_loop}
 use Rattle.model.specs.Table.Row.{procedure, returns, call, no_row}
-use Rattle.model.specs.Procedures.{opened_before, owner, opens_rightly, procedure_rule, keeps_procedures}
-use Rattle.model.proofs.ReduceLaws.{no-row}
+use Rattle.model.specs.Procedures.{opened_before, owner, allowed, opens_rightly, procedure_rule, keeps_procedures}
+use Rattle.model.proofs.ReduceLaws.{opens-43}
 use Rattle.model.proofs.UsesLaws.{uses-right}
 use Rattle.kinds.specs.Code.{InSorts, There}
-use Rattle.kinds.proofs.LineLaws.{home-more, home-none, locals-fit, none-open, open_more, three}
+use Rattle.kinds.proofs.LineLaws.{home-more, home-none, locals-fit, none-open, open_more}
 use Rattle.procedures.specs.declared.rows.Met.{Met}
-use Rattle.procedures.specs.Code.{uses_by, line_by, locals_free, opens_by, rule_by, Owners, Summaries, MetBefore, met_after}
+use Rattle.procedures.specs.declared.uses.Uses.{Uses as UsesName}
+use Rattle.procedures.specs.Code.{line_by, locals_free, opens_by, rule_for, rule_by, Owners, Summaries, MetBefore, met_after}
 use Rattle.procedures.proofs.MapLaws.{opened-more, opened-none}
 use Rattle.procedures.proofs.SummaryLaws.{uses-own}
 
@@ -83,84 +81,30 @@ opens-else true true false l e = refl
 opens-else true false c l e = refl
 opens-else false b c l e = refl
 
-pub some-locals : (a b : Bool) (n : ℕ) → (a && (b && between 1 4 n)) ≡ true → n ≡ 0 → ⊥
-some-locals a b n e z =
-    let p = three a b (between 1 4 n) e in
-    omega (arith, leb-true 1 n (and_left (leb 1 n) (leb n 4) p.2))
-
 same-all : (n : ℕ) (f g : ℕ → Bool) → ((i : ℕ) → i < n → f i ≡ g i) → all n f ≡ all n g
 unfolding all
 same-all zero f g h = refl
 same-all (suc n) f g h = rw (same-all n f g (λ i l. h i (omega arith)), h n (omega arith))
 
--- ---- a row's rule by its kind, as numbers: which of the three, or none
+-- ---- a row's rule by its kind; u: what the code finds of a 43
 
-abbrev rule_number : Row → ℕ
-rule_number skip = 0
-rule_number assign = 0
-rule_number store = 0
-rule_number assert = 0
-rule_number assume = 0
-rule_number array = 0
-rule_number loop = 0
-rule_number loop_end = 0
-rule_number reduced_store = 0
-rule_number reduced_array = 0
-rule_number class_loop = 0
-rule_number procedure = 43
-rule_number returns = 44
-rule_number call = 45
-rule_number no_row = 0
-
-abbrev ruled : ℕ → Bool → Bool → Bool → Bool
-ruled k x y z = if eqb k 43 then x else (if eqb k 44 then y else (if eqb k 45 then z else true))
-
-rule-is : (t : Table) (r : ℕ) (k : Row) (a b c : ℕ)
-    → procedure_rule t r k a b c ≡ ruled (rule_number k) (opens_rightly t r a b) (not (eqb (home t r) 0)) (ltb (opening t a) t.rows && not (marked_uint t c))
-rule-is t r skip a b c = refl
-rule-is t r assign a b c = refl
-rule-is t r store a b c = refl
-rule-is t r assert a b c = refl
-rule-is t r assume a b c = refl
-rule-is t r array a b c = refl
-rule-is t r loop a b c = refl
-rule-is t r loop_end a b c = refl
-rule-is t r reduced_store a b c = refl
-rule-is t r reduced_array a b c = refl
-rule-is t r class_loop a b c = refl
-rule-is t r procedure a b c = refl
-rule-is t r returns a b c = refl
-rule-is t r call a b c = refl
-rule-is t r no_row a b c = refl
-
--- a number of a rule is that of its kind, and no other kind has one
-abbrev kind_rule : ℕ → ℕ
-kind_rule k = if eqb k 43 then 43 else (if eqb k 44 then 44 else (if eqb k 45 then 45 else 0))
-
-kind-rule : (k : ℕ) → rule_number (row_kind k) ≡ kind_rule k
-unfolding row_kind all
-kind-rule k = elim (dec_le 46 k) [
-  | yes h ↦ rw (no-row k h, ne_eqb k 43 (λ e. omega arith), ne_eqb k 44 (λ e. omega arith), ne_eqb k 45 (λ e. omega arith))
-  | no h ↦ eqb-true (rule_number (row_kind k)) (kind_rule k) (all-at 46 (λ k. eqb (rule_number (row_kind k)) (kind_rule k)) refl k (omega arith))
-]
-
-ruled-kind : (k : ℕ) (x y z : Bool) → ruled (kind_rule k) x y z ≡ ruled k x y z
-ruled-kind k x y z = go (eqb k 43) (eqb k 44) (eqb k 45)
-  where
-    go : (a b c : Bool) → ruled (if a then 43 else (if b then 44 else (if c then 45 else 0))) x y z
-        ≡ (if a then x else (if b then y else (if c then z else true)))
-    go true b c = refl
-    go false true c = refl
-    go false false true = refl
-    go false false false = refl
-
-ruled-first : (k : ℕ) (x u y z : Bool) → (k ≡ 43 → x ≡ u) → ruled k x y z ≡ ruled k u y z
-ruled-first k x u y z h = go (eqb k 43) refl
-  where
-    go : (b : Bool) → eqb k 43 ≡ b → (if b then x else (if eqb k 44 then y else (if eqb k 45 then z else true)))
-        ≡ (if b then u else (if eqb k 44 then y else (if eqb k 45 then z else true)))
-    go true e = h (eqb-true k 43 e)
-    go false e = refl
+rule-is : (t : Table) (r : ℕ) (k : Row) (a b c : ℕ) (u : Bool) → (k ≡ procedure → opens_rightly t r a b ≡ u)
+    → procedure_rule t r k a b c ≡ rule_for k u (not (eqb (home t r) 0)) (ltb (opening t a) t.rows && not (marked_uint t c))
+rule-is t r skip a b c u h = refl
+rule-is t r assign a b c u h = refl
+rule-is t r store a b c u h = refl
+rule-is t r assert a b c u h = refl
+rule-is t r assume a b c u h = refl
+rule-is t r array a b c u h = refl
+rule-is t r loop a b c u h = refl
+rule-is t r loop_end a b c u h = refl
+rule-is t r reduced_store a b c u h = refl
+rule-is t r reduced_array a b c u h = refl
+rule-is t r class_loop a b c u h = refl
+rule-is t r procedure a b c u h = h refl
+rule-is t r returns a b c u h = refl
+rule-is t r call a b c u h = refl
+rule-is t r no_row a b c u h = refl
 
 -- ---- what was met, from row to row
 
@@ -190,7 +134,8 @@ module _ (t : Table) where
 
     -- ---- row r
 
-    module _ (laid : InSorts t) (th : There t) (owners uses : List ℕ) (o : Owners t owners) (s : Summaries t uses t.nodes) (inside : r < t.rows) where
+    module _ (laid : InSorts t) (th : There t) (owners : List ℕ) (uses : List UsesName) (o : Owners t owners)
+        (s : Summaries t uses t.nodes) (inside : r < t.rows) where
       abbrev line : ℕ
       line = t.decls + t.nodes + r
 
@@ -208,19 +153,12 @@ module _ (t : Table) where
       unfolding rule_by
       rule-by total e =
           let l = row_at t r in
-          let x = opens_rightly t r l.a l.b in
-          let u = opens_by t.words owners met r l.a l.b in
-          let y = not (eqb (home t r) 0) in
-          let z = ltb (opening t l.a) t.rows && not (marked_uint t l.c) in
-          rule-is t r (row_kind l.kind) l.a l.b l.c
-          ∙ rw (kind-rule l.kind) (ruled-kind l.kind x y z)
-          ∙ ruled-first l.kind x u y z opens-is
+          let is : row_kind l.kind ≡ procedure → l.kind ≡ 43 = λ q. eqb-true l.kind 43 (sym (opens-43 l.kind) ∙ ap opens_procedure q) in
+          rule-is t r (row_kind l.kind) l.a l.b l.c (opens_by t.words owners met r l.a l.b) (λ q. opens-is (is q))
           ∙ rw ((uses-right t).called l.a, e, m.home)
 
       -- it breaks 17 as the code finds it
-      pub misplaced-by : (total used : ℕ) → total ≡ opened_before t t.rows → used ≡ line_by t.words owners uses line
-          → keeps_procedures t r ≡ (uses_by used met.home && rule_by t.words owners met total r line)
+      pub misplaced-by : (total : ℕ) → total ≡ opened_before t t.rows
+          → keeps_procedures t r ≡ (allowed met.home (line_by t.words owners uses line) && rule_by t.words owners met total r line)
       unfolding keeps_procedures
-      misplaced-by total used e u =
-          let low : home t r ≤ 256 = omega (arith, m.low_home, m.home, laid.few_rows) in
-          rw (uses-own t laid.few_rows laid th owners uses o r inside s low, rule-by total e, u, m.home)
+      misplaced-by total e = rw (uses-own t laid th owners uses o r inside s, rule-by total e, m.home)

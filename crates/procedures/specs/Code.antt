@@ -1,13 +1,17 @@
 -- What the code keeps of procedures in place of the model's words: the map on the way, and numbers for owners, uses and rows.
-use Rattle.std.specs.Prelude.{◌≡◌, ℕ, ◌+◌, ◌<◌, ◌≤◌, Bool, true, not, ◌&&◌, ◌||◌, List, length, get_or, set, ltb, eqb}
+use Rattle.std.specs.Prelude.{◌≡◌, ℕ, ◌+◌, ◌<◌, ◌≤◌, Bool, true, not, ◌&&◌, List, length, get_or, set, ltb, eqb}
 use Rattle.std.specs.Prelude.{if◌then◌else◌}
 use Rattle.lists.specs.Tab.{all}
-use Rattle.model.specs.Table.{Table, line_at, marked, row_kind, between, opens_procedure, open_at, home, stretch, within}
-use Rattle.model.specs.Procedures.{most_procedures, opened_before, owner, Uses, node_uses}
+use Rattle.model.specs.Table.{Table, line_at, marked, Row, row_kind, Role, nest_of, between, opens_procedure, open_at, home, stretch, within}
+use Rattle.model.specs.Table.Row.{procedure, returns, call}
+use Rattle.model.specs.Table.Role.{unused, flag, number, a_variable, a_node}
+use Rattle.model.specs.Procedures.{most_procedures, opened_before, owner, Uses, together, node_uses}
 use Rattle.model.specs.Procedures.Uses.{globals, locals_of_one, locals_of_two}
 use Rattle.kinds.specs.Kinds.{roles_of}
-use Rattle.kinds.specs.Code.{role_number, nest, open_after}
+use Rattle.kinds.specs.Code.{open_after}
 use Rattle.procedures.specs.declared.rows.Met.{Met}
+use Rattle.procedures.specs.declared.uses.Uses.{Uses as UsesName}
+use Rattle.procedures.specs.declared.uses.Uses.TheVariants as name
 use Rattle.procedures.specs.Map.{map_size}
 
 -- ---- the map
@@ -38,33 +42,33 @@ pub record Owners (t : Table) (owners : List ℕ) : Type 0 where
 
 -- ---- uses
 
--- whose locals are used: the first row of a procedure, and for those of two a number that no procedure has
-abbrev pub uses_number : Uses → ℕ
-uses_number globals = 0
-uses_number (locals_of_one q) = q
-uses_number locals_of_two = 257
+-- whose locals are used, as the model says it
+abbrev pub uses_said : UsesName → Uses
+uses_said name.Globals = globals
+uses_said (name.LocalsOfOne q) = locals_of_one q
+uses_said name.LocalsOfTwo = locals_of_two
 
--- they are globals, or locals of the procedure with the first row q
-abbrev pub uses_by : ℕ → ℕ → Bool
-uses_by x q = eqb x 0 || eqb x q
+-- what the buffer has for node x, globals past its end
+abbrev pub kept_uses : List UsesName → ℕ → Uses
+kept_uses uses x = uses_said (get_or uses x name.Globals)
 
--- what two use together
-unfoldable pub joined : ℕ → ℕ → ℕ
-joined x y = if eqb x 0 then y else (if eqb y 0 then x else (if eqb x y then x else 257))
+-- an operand, by its role, and a line
+abbrev pub operand_by : List ℕ → List UsesName → Role → ℕ → Uses
+operand_by owners uses unused x = globals
+operand_by owners uses flag x = globals
+operand_by owners uses number x = globals
+operand_by owners uses a_variable x = if eqb (get_or owners x 0) 0 then globals else locals_of_one (get_or owners x 0)
+operand_by owners uses a_node x = kept_uses uses x
 
--- an operand, by the number of its role, and a line
-unfoldable pub operand_by : List ℕ → List ℕ → ℕ → ℕ → ℕ
-operand_by owners uses role x = if eqb role 3 then get_or owners x 0 else (if eqb role 4 then get_or uses x 0 else 0)
-
-abbrev pub line_by : List ℕ → List ℕ → List ℕ → ℕ → ℕ
+abbrev pub line_by : List ℕ → List ℕ → List UsesName → ℕ → Uses
 line_by w owners uses i =
-    joined (operand_by owners uses (role_number (roles_of (line_at w i).kind).a) (line_at w i).a)
-    (joined (operand_by owners uses (role_number (roles_of (line_at w i).kind).b) (line_at w i).b)
-    (operand_by owners uses (role_number (roles_of (line_at w i).kind).c) (line_at w i).c))
+    let l = line_at w i in
+    let rs = roles_of l.kind in
+    together (operand_by owners uses rs.a l.a) (together (operand_by owners uses rs.b l.b) (operand_by owners uses rs.c l.c))
 
 -- what the first n nodes use
-pub record Summaries (t : Table) (uses : List ℕ) (n : ℕ) : Type 0 where
-  pub right : (j : ℕ) → j < n → get_or uses j 0 ≡ uses_number (node_uses t j)
+pub record Summaries (t : Table) (uses : List UsesName) (n : ℕ) : Type 0 where
+  pub right : (j : ℕ) → j < n → kept_uses uses j ≡ node_uses t j
 
 -- ---- rows
 
@@ -82,7 +86,7 @@ abbrev pub met_after : Met → ℕ → ℕ → Met
 met_after met k r = record {
   home = if opens_procedure (row_kind k) then r + 1 else met.home;
   opened = met.opened + (if opens_procedure (row_kind k) then 1 else 0);
-  loops = open_after (nest k) met.loops;
+  loops = open_after (nest_of (row_kind k)) met.loops;
 }
 
 -- 17, of the n locals of a 43 from a on, and of a 43
@@ -92,10 +96,15 @@ locals_free w owners a n q = all n (λ i. not (marked w 2 (a + i))) && all n (λ
 unfoldable pub opens_by : List ℕ → List ℕ → Met → ℕ → ℕ → ℕ → Bool
 opens_by w owners met r a n = ltb met.opened most_procedures && (eqb met.loops 0 && (between 1 4 n && locals_free w owners a n (r + 1)))
 
--- 17, of row r, which is line i, by its kind
+-- 17, of a row by its kind: of a 43, of a 44 and of a 45
+abbrev pub rule_for : Row → Bool → Bool → Bool → Bool
+rule_for procedure opening returning calling = opening
+rule_for returns opening returning calling = returning
+rule_for call opening returning calling = calling
+rule_for k opening returning calling = true
+
+-- 17, of row r, which is line i
 unfoldable pub rule_by : List ℕ → List ℕ → Met → ℕ → ℕ → ℕ → Bool
 rule_by w owners met total r i =
-    if eqb (line_at w i).kind 43 then opens_by w owners met r (line_at w i).a (line_at w i).b
-    else (if eqb (line_at w i).kind 44 then not (eqb met.home 0)
-    else (if eqb (line_at w i).kind 45 then ltb (line_at w i).a total && not (marked w 2 (line_at w i).c)
-    else true))
+    let l = line_at w i in
+    rule_for (row_kind l.kind) (opens_by w owners met r l.a l.b) (not (eqb met.home 0)) (ltb l.a total && not (marked w 2 l.c))

@@ -3,12 +3,12 @@
 
 ghost use Rattle.std.specs.Prelude.{◌≡◌, ◌+◌, ◌*◌, ◌/◌, ◌<◌, ◌≤◌, length};
 ghost use Rattle.lists.specs.First.{first};
-ghost use Rattle.kinds.specs.Code.{table_by, InSorts, There};
+ghost use Rattle.kinds.specs.Code.{table_by, table_in, InSorts, There};
 ghost use Rattle.procedures.specs.Map.{Mapped, map_size};
 ghost use Rattle.procedures.specs.Misplaced.{breaks17};
 
-use kinds::{Counts, home_after, one_if, opens_procedure};
-use lists::Found;
+use crate::uses::Uses;
+use kinds::{Counts, Lines, home_after, opens_procedure};
 
 mod map; // map.rt: the map, word by word
 pub mod owners; // owners.rt: whose local each variable is, for our crates above
@@ -28,26 +28,24 @@ pub fn map_procedures(words: &[u32], counts: Counts, map: &mut [u32])
     map::clear_openings(map, counts.rows);
     let mut home: usize = 0;
     let mut opened: usize = 0;
-    let mut row: usize = 0;
-    while row < counts.rows {
+    for row in 0..counts.rows {
         map[PLACES + row] = home as u32;
         let opens = opens_procedure(words[4 * (counts.decls + counts.nodes + row)]);
         map::note_opening(map, opens, opened, row);
         home = home_after(opens, row, home);
-        opened += one_if(opens);
-        row += 1;
+        opened += usize::from(opens);
     }
-    map[PLACES + row] = home as u32;
+    map[PLACES + counts.rows] = home as u32;
 }
 
 // 17: the first line that breaks it, of a table that passes 4 to 8. A pass over the rows for the owners of variables, one over the nodes for what
 // they use, and two over the rows: how many procedures there are, and which row breaks a rule.
-pub fn first_misplaced(words: &[u32], counts: Counts) -> Found
-    requires { InSorts (table_by words.now counts) × There (table_by words.now counts) }
-    ensures { result ≡ first (breaks17 (table_by words.now counts)) 0 (length words.now / 4) }
+pub fn first_misplaced(lines: Lines) -> Option<usize>
+    requires { InSorts (table_in lines) × There (table_in lines) }
+    ensures { result ≡ first (breaks17 (table_in lines.entry)) 0 (length lines.entry.words.now / 4) }
 {
-    let owners = owners::owners_of(words, counts);
-    let mut uses = [0u32; 1024];
-    uses::fill_uses(words, counts, &owners, &mut uses);
-    rows::first_row(words, counts, &owners, &uses)
+    let owners = owners::owners_of(lines.words, lines.counts);
+    let mut uses = [Uses::Globals; 1024];
+    uses::fill_uses(lines, &owners, &mut uses);
+    rows::first_row(lines, &owners, &uses)
 }

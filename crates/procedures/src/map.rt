@@ -10,11 +10,7 @@ pub(crate) fn clear_openings(map: &mut [u32], rows: usize)
     requires { (length map.old ≡ map_size) × (rows ≤ 256) }
     ensures { Cleared map.new rows }
 {
-    let mut k: usize = 0;
-    while k < PLACES {
-        map[k] = rows as u32;
-        k += 1;
-    }
+    map[..PLACES].fill(rows as u32);
 }
 
 // Where a row opens a procedure, it is kept if it is one of the first sixteen.

@@ -22,11 +22,8 @@ fn claim(owners: &mut [u32], a: u32, count: u32, first: u32)
 {
     let from = a as usize;
     let end = from + count as usize;
-    let mut v: usize = 0;
-    while v < 32 {
-        let kept = owners[v];
-        owners[v] = claimed_by(kept, (from <= v) & (v < end), first);
-        v += 1;
+    for v in 0..32 {
+        owners[v] = claimed_by(owners[v], (from <= v) & (v < end), first);
     }
 }
 
@@ -36,13 +33,11 @@ pub fn owners_of(words: &[u32], counts: Counts) -> [u32; 32]
     ensures { Owners (table_by words.now counts) result }
 {
     let mut owners = [0u32; 32];
-    let mut row: usize = 0;
-    while row < counts.rows {
+    for row in 0..counts.rows {
         let w = 4 * (counts.decls + counts.nodes + row);
         if opens_procedure(words[w]) {
             claim(&mut owners, words[w + 1], words[w + 2], row as u32 + 1);
         }
-        row += 1;
     }
     owners
 }

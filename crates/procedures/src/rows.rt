@@ -2,14 +2,14 @@
 ghost use Rattle.std.specs.Prelude.{◌≡◌, not, ◌&&◌, ◌+◌, ◌*◌, ◌/◌, ◌<◌, ◌≤◌, length, get_or, ltb};
 ghost use Rattle.lists.specs.First.{first};
 ghost use Rattle.model.specs.Table.{marked};
-ghost use Rattle.model.specs.Procedures.{opened_before, keeps_procedures};
-ghost use Rattle.kinds.specs.Code.{table_by, InSorts, There, LocalsFit};
+ghost use Rattle.model.specs.Procedures.{opened_before, allowed, keeps_procedures};
+ghost use Rattle.kinds.specs.Code.{table_in, InSorts, There, LocalsFit};
 ghost use Rattle.procedures.specs.Misplaced.{breaks17};
-ghost use Rattle.procedures.specs.Code.{uses_by, locals_free, opens_by, rule_by, Owners, Summaries, MetBefore, met_after};
+ghost use Rattle.procedures.specs.Code.{uses_said, locals_free, opens_by, rule_by, Owners, Summaries, MetBefore, met_after};
 
-use crate::uses::line_uses;
-use kinds::{Counts, home_after, is_marked, nest_of, one_if, open_after, opens_procedure};
-use lists::{Found, word_or_zero};
+use crate::uses::{Uses, line_uses};
+use kinds::{Lines, Row, home_after, is_marked, nest_of, open_after, opens_procedure};
+use lists::word_or_zero;
 
 const UINT: u32 = 2;
 
@@ -32,7 +32,7 @@ fn met_after(met: Met, kind: u32, row: usize) -> Met
 {
     let opens = opens_procedure(kind);
     let home = home_after(opens, row, met.home);
-    let opened = met.opened + one_if(opens);
+    let opened = met.opened + usize::from(opens);
     let loops = open_after(nest_of(kind), met.loops);
     Met {
         home,
@@ -42,25 +42,26 @@ fn met_after(met: Met, kind: u32, row: usize) -> Met
 }
 
 // How many rows 43 there are, past sixteen too.
-fn count_procedures(words: &[u32], counts: Counts) -> usize
-    requires { (length words.now ≡ 4 * (counts.decls + counts.nodes + counts.rows)) × (counts.rows ≤ 256) }
-    ensures { result ≡ opened_before (table_by words.now counts) counts.rows }
+fn count_procedures(lines: Lines) -> usize
+    requires { (length lines.words.now ≡ 4 * (lines.counts.decls + lines.counts.nodes + lines.counts.rows)) × (lines.counts.rows ≤ 256) }
+    ensures { result ≡ opened_before (table_in lines.entry) lines.entry.counts.rows }
 {
     let mut opened: usize = 0;
-    let mut row: usize = 0;
-    while row < counts.rows {
-        opened += one_if(opens_procedure(words[4 * (counts.decls + counts.nodes + row)]));
-        row += 1;
+    for row in 0..lines.counts.rows {
+        opened += usize::from(opens_procedure(lines.kind_of_row(row)));
     }
     opened
 }
 
 // Whether what a row uses are globals, or locals of the procedure with this first row.
-fn is_own(used: u32, home: usize) -> bool
-    ensures { result ≡ uses_by used home }
+fn is_own(used: Uses, home: usize) -> bool
+    ensures { result ≡ allowed home (uses_said used) }
 {
-    let of = used as usize;
-    (of == 0) | (of == home)
+    match used {
+        Uses::Globals => true,
+        Uses::LocalsOfOne(first) => first as usize == home,
+        Uses::LocalsOfTwo => false,
+    }
 }
 
 // Whether no local of a 43 is marked or an earlier 43's.
@@ -68,13 +69,11 @@ fn locals_free(words: &[u32], owners: &[u32], a: u32, count: u32, first: u32) ->
     requires { a + count ≤ 32 }
     ensures { result ≡ locals_free words.now owners.now a count first }
 {
-    let mut i: u32 = 0;
-    while i < count {
+    for i in 0..count {
         let v = a + i;
         if is_marked(words, UINT, v) | (owner_of(owners, v) != first) {
             return false;
         }
-        i += 1;
     }
     true
 }
@@ -108,62 +107,59 @@ fn calls_rightly(words: &[u32], total: usize, a: u32, c: u32) -> bool
 }
 
 // What 17 asks of a row by its kind.
+#[tactic(auto, unfolding(crate::specs::Code::rule_by))]
 fn rule_kept(words: &[u32], owners: &[u32], met: Met, total: usize, row: usize, line: usize) -> bool
     requires { (4 * line + 3 < length words.now) × (row < 256) × LocalsFit words.now line }
     ensures { result ≡ rule_by words.now owners.now met total row line }
 {
     let w = 4 * line;
-    let kind = words[w];
-    match kind {
-        43 => opens_rightly(words, owners, met, row, words[w + 1], words[w + 2]),
-        44 => met.home != 0,
-        45 => calls_rightly(words, total, words[w + 1], words[w + 3]),
+    match Row::from(words[w]) {
+        Row::Procedure => opens_rightly(words, owners, met, row, words[w + 1], words[w + 2]),
+        Row::Return => met.home != 0,
+        Row::Call => calls_rightly(words, total, words[w + 1], words[w + 3]),
         _ => true,
     }
 }
 
 // 17, of a row: it uses a local that is not its own, or its kind's rule is broken.
 fn row_misplaced(
-    words: &[u32],
-    counts: Counts,
+    lines: Lines,
     owners: &[u32],
-    uses: &[u32],
+    uses: &[Uses],
     met: Met,
     total: usize,
     row: usize,
 ) -> bool
-    requires in_sorts { InSorts (table_by words.now counts) × There (table_by words.now counts) }
-    requires owners { Owners (table_by words.now counts) owners.now × Summaries (table_by words.now counts) uses.now counts.nodes }
-    requires row_lt_rows { (row < counts.rows) × MetBefore (table_by words.now counts) met row }
-    requires total_value { total ≡ opened_before (table_by words.now counts) counts.rows }
-    ensures { result ≡ not (keeps_procedures (table_by words.now counts) row) }
+    requires in_sorts { InSorts (table_in lines) × There (table_in lines) }
+    requires owners { Owners (table_in lines) owners.now × Summaries (table_in lines) uses.now lines.counts.nodes }
+    requires row_lt_rows { (row < lines.counts.rows) × MetBefore (table_in lines) met row }
+    requires total_value { total ≡ opened_before (table_in lines) lines.counts.rows }
+    ensures { result ≡ not (keeps_procedures (table_in lines.entry) row) }
 {
-    let line = counts.decls + counts.nodes + row;
-    let used = line_uses(words, owners, uses, line);
-    let kept = rule_kept(words, owners, met, total, row, line);
+    let line = lines.counts.decls + lines.counts.nodes + row;
+    let used = line_uses(lines.words, owners, uses, line);
+    let kept = rule_kept(lines.words, owners, met, total, row, line);
     !(is_own(used, met.home) & kept)
 }
 
 // 17: the first row that breaks it.
-pub(crate) fn first_row(words: &[u32], counts: Counts, owners: &[u32], uses: &[u32]) -> Found
-    requires in_sorts { InSorts (table_by words.now counts) × There (table_by words.now counts) }
-    requires owners { Owners (table_by words.now counts) owners.now × Summaries (table_by words.now counts) uses.now counts.nodes }
-    ensures { result ≡ first (breaks17 (table_by words.now counts)) 0 (length words.now / 4) }
+pub(crate) fn first_row(lines: Lines, owners: &[u32], uses: &[Uses]) -> Option<usize>
+    requires in_sorts { InSorts (table_in lines) × There (table_in lines) }
+    requires owners { Owners (table_in lines) owners.now × Summaries (table_in lines) uses.now lines.counts.nodes }
+    ensures { result ≡ first (breaks17 (table_in lines.entry)) 0 (length lines.entry.words.now / 4) }
 {
-    let total = count_procedures(words, counts);
-    let rows_from = counts.decls + counts.nodes;
+    let total = count_procedures(lines);
+    let rows_from = lines.counts.decls + lines.counts.nodes;
     let mut met = Met {
         home: 0,
         opened: 0,
         loops: 0,
     };
-    let mut row: usize = 0;
-    while row < counts.rows {
-        if row_misplaced(words, counts, owners, uses, met, total, row) {
-            return Found::At(rows_from + row);
+    for row in 0..lines.counts.rows {
+        if row_misplaced(lines, owners, uses, met, total, row) {
+            return Some(rows_from + row);
         }
-        met = met_after(met, words[4 * (rows_from + row)], row);
-        row += 1;
+        met = met_after(met, lines.kind_of_row(row), row);
     }
-    Found::Nothing
+    None
 }

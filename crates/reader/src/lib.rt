@@ -6,21 +6,14 @@
 ghost use Rattle.std.specs.Prelude.{◌≡◌};
 ghost use Rattle.reader.specs.Choose.{choice_at, cursor_after, followed_by};
 
-// A choice and the cursor after it, or no choice left.
-#[derive(Clone, Copy)]
-pub enum Choice {
-    Is(u32, usize),
-    NoneLeft,
-}
-
-// The choice at a cursor.
-fn choice_at(list: &[u32], at: usize) -> Choice
+// The choice at a cursor, and the cursor after it; or none, where no choice is left.
+fn choice_at(list: &[u32], at: usize) -> Option<(u32, usize)>
     ensures { result ≡ choice_at list.now at }
 {
     if at < list.len() {
-        Choice::Is(list[at], at + 1)
+        Some((list[at], at + 1))
     } else {
-        Choice::NoneLeft
+        None
     }
 }
 
@@ -29,18 +22,18 @@ fn after(list: &[u32], at: usize) -> usize
     ensures { result ≡ cursor_after (choice_at list.now at) at }
 {
     match choice_at(list, at) {
-        Choice::Is(_, next) => next,
-        Choice::NoneLeft => at,
+        Some((_, next)) => next,
+        None => at,
     }
 }
 
 // The number of a choice, with another cursor after it.
-fn followed(c: Choice, at: usize) -> Choice
+fn followed(c: Option<(u32, usize)>, at: usize) -> Option<(u32, usize)>
     ensures { result ≡ followed_by c at }
 {
     match c {
-        Choice::Is(number, _) => Choice::Is(number, at),
-        Choice::NoneLeft => Choice::NoneLeft,
+        Some((number, _)) => Some((number, at)),
+        None => None,
     }
 }
 
@@ -59,7 +52,7 @@ pub fn new<'a>(list: &'a [u32], at: usize) -> Reader<'a>
 }
 
 // The choice at the reader's cursor.
-pub fn take<'a>(r: Reader<'a>) -> Choice
+pub fn take<'a>(r: Reader<'a>) -> Option<(u32, usize)>
     ensures { result ≡ choice_at r.entry.list.now r.entry.at }
 {
     choice_at(r.list, r.at)
@@ -76,7 +69,7 @@ pub fn rest<'a>(r: Reader<'a>) -> Reader<'a>
 }
 
 // Every choice is read here: the number is what `take` gives, and the cursor after it that of `rest`.
-pub fn take_choice(list: &[u32], at: usize) -> Choice
+pub fn take_choice(list: &[u32], at: usize) -> Option<(u32, usize)>
     ensures { result ≡ choice_at list.now at } // the choice at the cursor, not the one after it
 {
     let r = new(list, at);

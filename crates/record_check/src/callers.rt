@@ -27,7 +27,8 @@ fn is_call_of(t: &[u32], f: Frame, map: &[u32; 273], row: u32, q: u32) -> bool
         return false;
     }
     let w = 4 * (f.counts.decls + f.counts.nodes + r);
-    if t[w] != CALL {
+    let kind = t[w];
+    if kind != CALL {
         return false;
     }
     let k = t[w + 1] as usize;
@@ -41,19 +42,19 @@ fn calls_right(t: &[u32], f: Frame, map: &[u32; 273], stack: &[u32], at: usize, 
     ensures { result ≡ calls_right (table_for t.now f) q (caller_at (table_for t.now f) stack.now at) }
 {
     let row = stack[at];
-    if is_call_of(t, f, map, row, q) {
-        let open = stack[at + 1];
-        return stands_right(
-            t,
-            f.counts,
-            row,
-            open,
-            &stack[at + 6..at + 14],
-            &stack[at + 14..at + 22],
-            &stack[at + 22..at + 30],
-        );
+    if !is_call_of(t, f, map, row, q) {
+        return false;
     }
-    false
+    let open = stack[at + 1];
+    stands_right(
+        t,
+        f.counts,
+        row,
+        open,
+        &stack[at + 6..at + 14],
+        &stack[at + 14..at + 22],
+        &stack[at + 22..at + 30],
+    )
 }
 
 // At most eight callers (rule 7.15): the last calls what is at work, with the first row `at_work`, each other one what the next stands in, and
@@ -75,15 +76,12 @@ pub(crate) fn callers_right(
         return false;
     }
     let mut q = at_work;
-    let mut n = depth as usize;
-    while 0 < n {
-        n -= 1;
+    for n in (0..depth as usize).rev() {
         let at = CALLER * n;
-        if calls_right(t, f, map, stack, at, q) {
-            q = map[PLACES + stack[at] as usize];
-        } else {
+        if !calls_right(t, f, map, stack, at, q) {
             return false;
         }
+        q = map[PLACES + stack[at] as usize];
     }
     q == 0
 }

@@ -31,14 +31,8 @@ pub fn record_fits(t: &[u32], cells: &[u32], f: Frame, r: Record) -> bool
     let mut map = [0u32; 273];
     map_procedures(t, f.counts, &mut map);
     let at_work = map[PLACES + m.row as usize];
-    if !callers_right(t, f, &map, &stack[..], at_work) {
-        return false;
-    }
-    if !variables_fit(t, f, m) {
-        return false;
-    }
-    if !locals_idle(t, f, m, at_work) {
-        return false;
-    }
-    arrays_fit(cells, f, m)
+    callers_right(t, f, &map, &stack[..], at_work)
+        && variables_fit(t, f, m)
+        && locals_idle(t, f, m, at_work)
+        && arrays_fit(cells, f, m)
 }

@@ -23,9 +23,10 @@ use Rattle.model.specs.Eval.{Of}
 use Rattle.model.specs.Writer.{given}
 use Rattle.prepared.specs.Own.{own_table, places_of}
 use Rattle.evaluators.specs.contracts.nodes.Node.{the_type as node}
+use Rattle.evaluators.specs.declared.nodes.Test.{Test}
 use Rattle.evaluators.specs.declared.nodes.Node.{Node as Taken}
 use Rattle.evaluators.specs.declared.nodes.Node.TheVariants.{Variable, Constant, Flag, Cell, Arith, Compare, If, Valid, InClass, Nothing}
-use Rattle.evaluators.specs.declared.answers.Failure.TheVariants.{Stuck}
+use Rattle.machine.specs.declared.Failure.TheVariants.{Stuck}
 use Rattle.evaluators.specs.declared.answers.Answer.{Answer}
 use Rattle.evaluators.specs.declared.answers.Answer.TheVariants.{Bool as ABool, Uint as AUint, Not}
 use Rattle.evaluators.specs.CodeAnswers.{failed, out_of, Answers, Lent, vars_in, arrays_in, operand}
@@ -65,7 +66,7 @@ unfolding out_of failed
 stuck-is w h = h.said
 
 -- a node that is no operand of its user
-pub not-below : (e : Lent) (held : List ℕ) (w : Ty) (n user at : ℕ) (out : List ℕ) (p : Pushed) → user ≤ n → Recorded w e held user n (Not Stuck at) out p
+pub not-below : (e : Lent) (held : List ℕ) (w : Ty) (n user at : ℕ) (out : List ℕ) (p : Pushed ℕ) → user ≤ n → Recorded w e held user n (Not Stuck at) out p
 not-below e held w n user at out p h = record { value = values.not-below e w [] n user [] h; numbers = nowhere at out _ }
 
 -- ---- a variable's node, to a user that takes no uint: nothing is recorded
@@ -93,7 +94,7 @@ module _ (e : Lent) (held : List ℕ) (n user : ℕ) (leaf : leaf_at e.own user 
       let i : 136 + 4 * n ≡ 4 * (34 + n) = omega numbers in
       subst (λ (i : ℕ). get_or e.own i 0 ≤ 26) i (omega (numbers, leaf-kind e.own n user h leaf))
 
-  pub leaf-records-variable : {a : ℕ} (z : Answer) (out : List ℕ) (p : Pushed) → n < user → word ≡ 16 → a ≡ get_or e.own (136 + 4 * n + 1) 0
+  pub leaf-records-variable : {a : ℕ} (z : Answer) (out : List ℕ) (p : Pushed ℕ) → n < user → word ≡ 16 → a ≡ get_or e.own (136 + 4 * n + 1) 0
       → VariableRecords e.own e.numbers a z out p → Recorded uint e held user n z out p
   leaf-records-variable {a} z out p h k f s = record {
     value = says_same r.value (values.variable-is e [] n user uint [] h refl (leaf-variable e.own n k f));
@@ -113,7 +114,7 @@ module _ (e : Lent) (held : List ℕ) (n user : ℕ) (leaf : leaf_at e.own user 
         ∙ push-none (pushed out at));
   }
 
-  pub leaf-records-none : (out : List ℕ) (at : ℕ) (p : Pushed) → n < user → word ≢ 16 → word ≢ 17 → Recorded uint e held user n (Not Stuck at) out p
+  pub leaf-records-none : (out : List ℕ) (at : ℕ) (p : Pushed ℕ) → n < user → word ≢ 16 → word ≢ 17 → Recorded uint e held user n (Not Stuck at) out p
   leaf-records-none out at p h a b = record { value = values.no-uint-leaf e [] n user [] h leaf a b; numbers = nowhere at out _ }
 
   -- to a user that takes a pointer
@@ -138,7 +139,7 @@ module _ (e : Lent) (held : List ℕ) (n user : ℕ) (leaf : leaf_at e.own user 
 -- ---- a node's record, by the node r that was read at its number
 module _ (e : Lent) (held : List ℕ) (n user : ℕ) {r : Taken} where
   -- its numbers are xs, as the node's kind has them
-  by-numbers : (w : Ty) (z : Answer) (out : List ℕ) (p : Pushed) {x : Taken} {xs : List ℕ} → Plain e.own → user ≤ 1024 → n < user
+  by-numbers : (w : Ty) (z : Answer) (out : List ℕ) (p : Pushed ℕ) {x : Taken} {xs : List ℕ} → Plain e.own → user ≤ 1024 → n < user
       → r ≡ node_in e.own n → r ≡ x → Answers w [] z (operand e w user n []) → Reached z out (push_all xs p)
       → xs ≡ numbers_of e held (λ v m. operand e v n m) (places_of e.own) w n x → Recorded w e held user n z out p
   by-numbers w z out p plain most h read q v s k = record {
@@ -150,7 +151,7 @@ module _ (e : Lent) (held : List ℕ) (n user : ℕ) {r : Taken} where
   is_plain : Plain e.own → user ≤ 1024 → n < user → r ≡ node_in e.own n → {x : Taken} → r ≡ x → plain_node x ≡ true
   is_plain plain most h read q = sym (ap plain_node (sym read ∙ q)) ∙ node-plain e.own n plain (omega numbers)
 
-  pub uint-variable : (z : Answer) (out : List ℕ) (p : Pushed) {a : ℕ} → Plain e.own → user ≤ 1024 → n < user → r ≡ node_in e.own n → r ≡ Variable a
+  pub uint-variable : (z : Answer) (out : List ℕ) (p : Pushed ℕ) {a : ℕ} → Plain e.own → user ≤ 1024 → n < user → r ≡ node_in e.own n → r ≡ Variable a
       → VariableRecords e.own e.numbers a z out p → Recorded uint e held user n z out p
   uint-variable z out p plain most h read q s = by-numbers uint z out p plain most h read q
       (says_same (s.held e.bases e.count).value (values.variable-is e [] n user uint [] h read q)) (s.held e.bases e.count).numbers refl
@@ -165,7 +166,7 @@ module _ (e : Lent) (held : List ℕ) (n user : ℕ) {r : Taken} where
     bool-variable s = quiet e held n user bool at z out (plain.nodes n (omega numbers)) h (sym read ∙ q) no-bool-uint
         (λ l. values.any-variable e l n user at bool h read q s)
 
-  pub any-if : (w : Ty) (z : Answer) (out : List ℕ) (p : Pushed) {a b c : ℕ} → Plain e.own → user ≤ 1024 → n < user → r ≡ node_in e.own n
+  pub any-if : (w : Ty) (z : Answer) (out : List ℕ) (p : Pushed ℕ) {a b c : ℕ} → Plain e.own → user ≤ 1024 → n < user → r ≡ node_in e.own n
       → r ≡ If a b c
       → Records w (followed w (operand e bool n a []) (branch e w n b c))
       (and_then (operand_numbers e held bool n a) (operand e bool n a []) (branch_numbers e held w n b c)) z out p
@@ -179,7 +180,7 @@ module _ (e : Lent) (held : List ℕ) (n user : ℕ) {r : Taken} where
       go true = refl
       go false = refl
 
-  module _ (z : Answer) (out : List ℕ) (p : Pushed) where
+  module _ (z : Answer) (out : List ℕ) (p : Pushed ℕ) where
     pub pointer-arith : {m : Bool} {a b : ℕ} → Plain e.own → user ≤ 1024 → n < user → r ≡ node_in e.own n → r ≡ Arith m a b
         → Records pointer (followed pointer (operand e pointer n a [])
         (λ p ds. followed pointer (operand e uint n b ds) (moved_by m p.array p.place)))
@@ -197,7 +198,7 @@ module _ (e : Lent) (held : List ℕ) (n user : ℕ) {r : Taken} where
     uint-arith {a = a} {b = b} plain most h read q s = by-numbers uint z out p plain most h read q
         (values.uint-arith e [] n user z [] h read q s.value) s.numbers (last-operand e held n uint a b)
 
-    pub bool-compare : {k a b : ℕ} → Plain e.own → user ≤ 1024 → n < user → r ≡ node_in e.own n → r ≡ Compare k a b
+    pub bool-compare : {k : Test} {a b : ℕ} → Plain e.own → user ≤ 1024 → n < user → r ≡ node_in e.own n → r ≡ Compare k a b
         → Records bool (followed bool (operand e uint n a []) (λ x ds. followed bool (operand e uint n b ds) (tested k x)))
         (and_then (operand_numbers e held uint n a) (operand e uint n a [])
         (λ x. and_then (operand_numbers e held uint n b) (operand e uint n b []) (λ y. []))) z out p
@@ -238,7 +239,7 @@ module _ (e : Lent) (held : List ℕ) (n user : ℕ) {r : Taken} where
         (says_same (values.bool-constant e [] n user at h read q) (ap (operand e bool user n) (drop-nil at))) (sym (push-none (pushed out at))) refl
 
   -- nodes that give no value of a type
-  module _ (out : List ℕ) (at : ℕ) (p : Pushed) where
+  module _ (out : List ℕ) (at : ℕ) (p : Pushed ℕ) where
     pub pointer-other : n < user → r ≡ node_in e.own n → OneOf (1 ∷ 2 ∷ 3 ∷ 5 ∷ 7 ∷ 8 ∷ 9 ∷ []) (tag_of node r)
         → Recorded pointer e held user n (Not Stuck at) out p
     pointer-other h read k = record { value = values.pointer-other e [] n user [] h read k; numbers = nowhere at out _ }
@@ -260,7 +261,7 @@ not-class (Valid a) h k = hit (2 ∷ 5 ∷ 7 ∷ 9 ∷ []) 7 tt
 not-class (InClass a) h k = absurd (false≢true h)
 not-class Nothing h k = hit (2 ∷ 5 ∷ 7 ∷ 9 ∷ []) 9 tt
 
-pub uint-other : (e : Lent) (held : List ℕ) (n user : ℕ) {r : Taken} (out : List ℕ) (at : ℕ) (p : Pushed) → Plain e.own → user ≤ 1024 → n < user
+pub uint-other : (e : Lent) (held : List ℕ) (n user : ℕ) {r : Taken} (out : List ℕ) (at : ℕ) (p : Pushed ℕ) → Plain e.own → user ≤ 1024 → n < user
     → r ≡ node_in e.own n → OneOf (2 ∷ 5 ∷ 7 ∷ 8 ∷ 9 ∷ []) (tag_of node r) → Recorded uint e held user n (Not Stuck at) out p
 uint-other e held n user {r} out at p plain most h read k = record {
   value = values.uint-other e [] n user [] h read (not-class r (is_plain e held n user plain most h read refl) k);

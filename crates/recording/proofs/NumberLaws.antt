@@ -67,7 +67,8 @@ module _ (ps : List ℕ) (t : Table) (ks : List Bool) (s : State) where
   same-choices zero g w n h k = absurd (not-suc-le-zero h)
   same-choices (suc f) zero w n h k = absurd (not-suc-le-zero k)
   same-choices (suc f) (suc g) w n h k =
-      ap (λ ev. listed w n ev (λ v m. if ltb m n then choices_f ps t ks s f v m else [])) (below-fuel f n (omega numbers) ∙ sym (below-fuel g n (omega numbers)))
+      ap (λ ev. listed w n ev (λ v m. if ltb m n then choices_f ps t ks s f v m else []))
+      (below-fuel f n (omega numbers) ∙ sym (below-fuel g n (omega numbers)))
       ∙ ap (listed w n (below n (eval_f [] (contents_of s) t g)))
       (fun_ext λ v. fun_ext λ m. under m n (choices_f ps t ks s f v m) (choices_f ps t ks s g v m) []
       (λ l. same-choices f g v m (omega numbers) (omega numbers)))

@@ -14,30 +14,30 @@ use Rattle.std.specs.Prelude.{if◌then◌else◌}
 use Rattle.recording.specs.CodePushes.{Pushed, pushed, push, push_all}
 
 -- one number, where there is a place for it and where there is none
-pub push-in : (b : List ℕ) (i v : ℕ) → i < length b → pushed (set b i v) (i + 1) ≡ push v (pushed b i)
+pub push-in : {A : Type 0} (b : List A) (i : ℕ) (v : A) → i < length b → pushed (set b i v) (i + 1) ≡ push v (pushed b i)
 unfolding push
 push-in b i v h = rw (lt-ltb i (length b) h)
 
-pub push-out : (b : List ℕ) (i v : ℕ) → length b ≤ i → pushed b i ≡ push v (pushed b i)
+pub push-out : {A : Type 0} (b : List A) (i : ℕ) (v : A) → length b ≤ i → pushed b i ≡ push v (pushed b i)
 unfolding push
 push-out b i v h = rw (le-ltb i (length b) h)
 
-pub push-one : (v : ℕ) (p : Pushed) → push_all (v ∷ []) p ≡ push v p
+pub push-one : (v : ℕ) (p : Pushed ℕ) → push_all (v ∷ []) p ≡ push v p
 unfolding push_all
 push-one v p = refl
 
-pub push-none : (p : Pushed) → push_all [] p ≡ p
+pub push-none : (p : Pushed ℕ) → push_all [] p ≡ p
 unfolding push_all
 push-none p = refl
 
 -- one list after another
-pub push-append : (xs ys : List ℕ) (p : Pushed) → push_all (xs ++ ys) p ≡ push_all ys (push_all xs p)
+pub push-append : (xs ys : List ℕ) (p : Pushed ℕ) → push_all (xs ++ ys) p ≡ push_all ys (push_all xs p)
 unfolding push_all
 push-append [] ys p = refl
 push-append (x ∷ xs) ys p = push-append xs ys (push x p)
 
 -- the buffer keeps its length
-push-length : (v : ℕ) (p : Pushed) → length (push v p).buffer ≡ length p.buffer
+push-length : (v : ℕ) (p : Pushed ℕ) → length (push v p).buffer ≡ length p.buffer
 unfolding push
 push-length v p = go (ltb p.at (length p.buffer))
   where
@@ -45,7 +45,7 @@ push-length v p = go (ltb p.at (length p.buffer))
     go true = length-set p.buffer p.at v
     go false = refl
 
-pub length-kept : (xs : List ℕ) (p : Pushed) → length (push_all xs p).buffer ≡ length p.buffer
+pub length-kept : (xs : List ℕ) (p : Pushed ℕ) → length (push_all xs p).buffer ≡ length p.buffer
 unfolding push_all
 length-kept [] p = refl
 length-kept (x ∷ xs) p = length-kept xs (push x p) ∙ push-length x p
@@ -60,5 +60,6 @@ sets-all (x ∷ xs) b i h =
     ∙ sets-all xs (set b i x) (suc i) (rw (length-set b i x) (omega arith))
     ∙ ap (pushed (sets (set b i x) (suc i) xs)) (omega arith)
 
-pub push-fits : (xs b : List ℕ) (i : ℕ) → i + length xs ≤ length b → push_all xs (pushed b i) ≡ pushed (take i b ++ xs ++ drop (i + length xs) b) (i + length xs)
+pub push-fits : (xs b : List ℕ) (i : ℕ) → i + length xs ≤ length b
+    → push_all xs (pushed b i) ≡ pushed (take i b ++ xs ++ drop (i + length xs) b) (i + length xs)
 push-fits xs b i h = sets-all xs b i h ∙ ap (λ (l : List ℕ). pushed l (i + length xs)) (sets-eq xs b i h)

@@ -1,6 +1,6 @@
 -- Laws of records: what a variable and a cell record, how a user goes on from an operand that gave a value, and from one that did not.
 -- Assumes nothing.
-use Prim.Native.Nat.{ℕ, zero, suc, ◌<◌, ◌≤◌, ◌-◌}
+use Prim.Native.Nat.{ℕ, zero, suc, ◌<◌}
 use native.Mathlib.Omega.{arith as numbers}
 use native.Mathlib.Decide.{dec_lt}
 use mathlib.Core.Path.{◌≡◌, refl, sym, ap, subst, ◌∙◌}
@@ -31,15 +31,16 @@ use Rattle.evaluators.specs.CodeLeaves.{held_for, HoldsFor, load_of, arith, move
 use Rattle.evaluators.proofs.AnswerLaws.{said-uint, said-not, failed-next, followed, branch, tested}
 use Rattle.evaluators.proofs.ViewLaws.{var-out}
 use Rattle.evaluators.specs.contracts.answers.Answer.{the_type as answer}
-use Rattle.evaluators.specs.declared.answers.Failure.{Failure}
-use Rattle.evaluators.specs.declared.answers.Failure.TheVariants.{Fails, BadChoice, NoChoice, Stuck}
+use Rattle.machine.specs.declared.Failure.{Failure}
+use Rattle.machine.specs.declared.Failure.TheVariants.{Fails, BadChoice, NoChoice, Stuck}
+use Rattle.evaluators.specs.declared.nodes.Test.{Test}
 use Rattle.evaluators.specs.declared.answers.Answer.{Answer}
 use Rattle.evaluators.specs.declared.answers.Answer.TheVariants.{Bool as ABool, Uint as AUint, Pointer as APointer, Not}
 use Rattle.recording.specs.CodePushes.{Pushed, pushed, push, push_all}
 use Rattle.recording.specs.CodeRecords.{held_of, pair_of, operand_numbers, variable_numbers, cell_numbers, placed_at}
 use Rattle.recording.specs.CodeRecords.{ReachedBy, Reached, Records, VariableRecords}
 use Rattle.recording.proofs.PushLaws.{push-one, push-none, push-append}
-use Rattle.recording.proofs.PlaceLaws.{still-arith, still-next, still-moved, still-valid, still-tested, still-held, still-records}
+use Rattle.recording.proofs.PlaceLaws.{still-arith, still-next, still-moved, still-valid, still-tested, still-held, still-load, still-records, said-anywhere}
 
 -- ---- what decides whether a number is recorded
 pub held_none : (count : ℕ) (held : List ℕ) (to : ℕ) → count < to → false ≡ held_reduced (held_of count held) to
@@ -48,22 +49,22 @@ held_none count held zero h = absurd (omega numbers)
 held_none count held (suc i) h =
     sym (get_or-eq_default (tab count (λ i. eqb (get_or held i 0) 1)) false {n = i} (rw (length-tab count (λ i. eqb (get_or held i 0) 1)) (omega numbers)))
 
-pub held-some : (count : ℕ) (held : List ℕ) (to : ℕ) → to ≢ 0 → to ≤ count → eqb (get_or held (to - 1) 0) 1 ≡ held_reduced (held_of count held) to
+pub held-zero : (count : ℕ) (held : List ℕ) (to : ℕ) → to ≡ 0 → false ≡ held_reduced (held_of count held) to
+held-zero count held to e = rw e
+
+pub held-some : (count : ℕ) (held : List ℕ) (to : ℕ) {i : ℕ} → to ≡ suc i → i < count → eqb (get_or held i 0) 1 ≡ held_reduced (held_of count held) to
 unfolding held_of
-held-some count held zero ne h = absurd (ne refl)
-held-some count held (suc i) ne h =
-    let e : suc i - 1 ≡ i = omega numbers in
-    rw e (sym (at-tab count (λ i. eqb (get_or held i 0) 1) false i h))
+held-some count held to {i} e h = rw e (sym (at-tab count (λ i. eqb (get_or held i 0) 1) false i h))
 
 -- ---- what is stuck leaves the buffer free
-pub nowhere : (at : ℕ) (out : List ℕ) (p : Pushed) → Reached (Not Stuck at) out p
+pub nowhere : (at : ℕ) (out : List ℕ) (p : Pushed ℕ) → Reached (Not Stuck at) out p
 unfolding Reached ReachedBy
 nowhere at out p = tt
 
 unstuck : {A : Type 0} {a : A} {cs : List ℕ} → gives a cs ≡ stuck → ⊥
 unstuck e = let z : ◌≡◌ {A = ℕ} 0 1 = cc in omega numbers
 
-stuck-place : (w : Ty) (z : Answer) (out : List ℕ) (p : Pushed) → Answers w [] z stuck → Reached z out p
+stuck-place : (w : Ty) (z : Answer) (out : List ℕ) (p : Pushed ℕ) → Answers w [] z stuck → Reached z out p
 unfolding Reached ReachedBy out_of OfType failed
 stuck-place bool (ABool b i) out p h = absurd (unstuck h.said)
 stuck-place bool (AUint v i) out p h = absurd h.typed
@@ -79,7 +80,7 @@ stuck-place w (Not BadChoice i) out p h = tt
 stuck-place w (Not NoChoice i) out p h = tt
 stuck-place w (Not Stuck i) out p h = tt
 
-pub stuck-records : (w : Ty) (z : Answer) (out : List ℕ) (p : Pushed) (xs : List ℕ) {o : Out (Of w)} → stuck ≡ o → Answers w [] z o
+pub stuck-records : (w : Ty) (z : Answer) (out : List ℕ) (p : Pushed ℕ) (xs : List ℕ) {o : Out (Of w)} → stuck ≡ o → Answers w [] z o
     → Records w o xs z out p
 stuck-records w z out p xs e h = record { value = h; numbers = stuck-place w z out (push_all xs p) (rw (sym e) at h) }
 
@@ -155,7 +156,7 @@ module _ (own ns : List ℕ) (a at : ℕ) {x : Answer} (s : HoldsFor uint own ns
         ∙ rw (var-out own ns [] a (omega numbers) [])))
   ]
 
-  pub variable-none : (out : List ℕ) (p : Pushed) → OneOf (0 ∷ 2 ∷ 3 ∷ []) (tag_of answer x) → VariableRecords own ns a x out p
+  pub variable-none : (out : List ℕ) (p : Pushed ℕ) → OneOf (0 ∷ 2 ∷ 3 ∷ []) (tag_of answer x) → VariableRecords own ns a x out p
   unfolding Reached ReachedBy out_of OfType failed
   variable-none out p h = record { held = λ bs count. record { value = said-none bs count; numbers = go bs count x (said-none bs count) h } }
     where
@@ -196,8 +197,8 @@ placed-value (APointer r v i) at h = refl
 placed-value (Not f i) at h = absurd (miss (0 ∷ 1 ∷ 2 ∷ []) 3 tt h)
 
 -- ---- a cell: x is the load's answer
-module _ (own : List ℕ) (rs : List Array) (cells : List ℕ) (ks : List Bool) (p : Ptr) (at : ℕ) {x : Answer}
-    (said : Answers uint [] x (load_of false (places_of own) rs cells p (drop at []))) where
+module _ (own : List ℕ) (rs : List Array) (cells : List ℕ) (ks : List Bool) (p : Ptr) (at : ℕ) {l : List ℕ} {x : Answer}
+    (said : Answers uint l x (load_of false (places_of own) rs cells p (drop at l))) where
   abbrev ps : List ℕ
   ps = pair_of own
 
@@ -205,7 +206,7 @@ module _ (own : List ℕ) (rs : List Array) (cells : List ℕ) (ks : List Bool) 
   o = load_of false (places_of own) rs cells p []
 
   s : Answers uint [] x o
-  s = subst (λ (cs : List ℕ). Answers uint [] x (load_of false (places_of own) rs cells p cs)) (drop-nil at) said
+  s = said-anywhere (load_of false (places_of own) rs cells p) at (still-load (places_of own) rs cells p) said
 
   module _ {v i : ℕ} (e : x ≡ AUint v i) where
     loads-it : (j : ℕ) → Answers uint [] (AUint v j) o
@@ -286,19 +287,19 @@ module _ (own : List ℕ) (rs : List Array) (cells : List ℕ) (ks : List Bool) 
 
 -- ---- how a user goes on: what the operand's answer x, with the numbers xs up to the buffer mid, says of what it comes to, o
 -- it gave a
-pub record Gave {A : Type 0} (o : Out A) (a : A) (xs : List ℕ) (mid : List ℕ) (m : ℕ) (p : Pushed) : Type 0 where
+pub record Gave {A : Type 0} (o : Out A) (a : A) (xs : List ℕ) (mid : List ℕ) (m : ℕ) (p : Pushed ℕ) : Type 0 where
   pub gave : o ≡ gives a []
   pub reached : pushed mid m ≡ push_all xs p
 
 -- it gave no value, and its user fails as it did
-pub record Lost {A : Type 0} (o : Out A) (xs : List ℕ) (x : Answer) (mid : List ℕ) (p : Pushed) : Type 0 where
+pub record Lost {A : Type 0} (o : Out A) (xs : List ℕ) (x : Answer) (mid : List ℕ) (p : Pushed ℕ) : Type 0 where
   pub why : Failure
   pub place : ℕ
   pub is : x ≡ Not why place
   pub lost : failed [] place why ≡ o
   pub reached : ReachedBy why place mid (push_all xs p)
 
-module _ (x : Answer) (mid : List ℕ) (p : Pushed) {xs : List ℕ} where
+module _ (x : Answer) (mid : List ℕ) (p : Pushed ℕ) {xs : List ℕ} where
   pub gave-uint : {o : Out ℕ} {v m : ℕ} → Records uint o xs x mid p → x ≡ AUint v m → Gave o v xs mid m p
   unfolding out_of Reached
   gave-uint {o} {v} {m} h q = record {
@@ -327,14 +328,14 @@ none-given BadChoice i g = refl
 none-given NoChoice i g = refl
 none-given Stuck i g = refl
 
-module _ {A : Type 0} {o : Out A} {xs : List ℕ} {x : Answer} {mid : List ℕ} {p : Pushed} (h : Lost o xs x mid p) where
+module _ {A : Type 0} {o : Out A} {xs : List ℕ} {x : Answer} {mid : List ℕ} {p : Pushed ℕ} (h : Lost o xs x mid p) where
   pub lost-next : {B : Type 0} (k : A → Work B) → next o k ≡ failed [] h.place h.why
   lost-next k = ap (λ (y : Out A). next y k) (sym h.lost) ∙ sym (failed-next [] h.place h.why k)
 
   pub lost-given : (g : A → List ℕ) → given o g ≡ []
   lost-given g = ap (λ (y : Out A). given y g) (sym h.lost) ∙ none-given h.why h.place g
 
-lost-not : (w : Ty) (f : Failure) (i : ℕ) (mid : List ℕ) (p : Pushed) {xs : List ℕ} {o : Out (Of w)} → Records w o xs (Not f i) mid p
+lost-not : (w : Ty) (f : Failure) (i : ℕ) (mid : List ℕ) (p : Pushed ℕ) {xs : List ℕ} {o : Out (Of w)} → Records w o xs (Not f i) mid p
     → Lost o xs (Not f i) mid p
 unfolding out_of Reached
 lost-not w f i mid p {xs} {o} h = record {
@@ -345,7 +346,7 @@ lost-not w f i mid p {xs} {o} h = record {
   reached = h.numbers;
 }
 
-pub lost-uint : (x : Answer) (mid : List ℕ) (p : Pushed) {xs : List ℕ} {o : Out ℕ} → Records uint o xs x mid p
+pub lost-uint : (x : Answer) (mid : List ℕ) (p : Pushed ℕ) {xs : List ℕ} {o : Out ℕ} → Records uint o xs x mid p
     → OneOf (0 ∷ 2 ∷ 3 ∷ []) (tag_of answer x) → Lost o xs x mid p
 unfolding OfType
 lost-uint (ABool b i) mid p h t = absurd h.value.typed
@@ -353,7 +354,7 @@ lost-uint (AUint v i) mid p h t = absurd (miss (0 ∷ 2 ∷ 3 ∷ []) 1 tt t)
 lost-uint (APointer r v i) mid p h t = absurd h.value.typed
 lost-uint (Not f i) mid p h t = lost-not uint f i mid p h
 
-pub lost-pointer : (x : Answer) (mid : List ℕ) (p : Pushed) {xs : List ℕ} {o : Out Ptr} → Records pointer o xs x mid p
+pub lost-pointer : (x : Answer) (mid : List ℕ) (p : Pushed ℕ) {xs : List ℕ} {o : Out Ptr} → Records pointer o xs x mid p
     → OneOf (0 ∷ 1 ∷ 3 ∷ []) (tag_of answer x) → Lost o xs x mid p
 unfolding OfType
 lost-pointer (ABool b i) mid p h t = absurd h.value.typed
@@ -361,7 +362,7 @@ lost-pointer (AUint v i) mid p h t = absurd h.value.typed
 lost-pointer (APointer r v i) mid p h t = absurd (miss (0 ∷ 1 ∷ 3 ∷ []) 2 tt t)
 lost-pointer (Not f i) mid p h t = lost-not pointer f i mid p h
 
-pub lost-bool : (x : Answer) (mid : List ℕ) (p : Pushed) {xs : List ℕ} {o : Out Bool} → Records bool o xs x mid p
+pub lost-bool : (x : Answer) (mid : List ℕ) (p : Pushed ℕ) {xs : List ℕ} {o : Out Bool} → Records bool o xs x mid p
     → OneOf (1 ∷ 2 ∷ 3 ∷ []) (tag_of answer x) → Lost o xs x mid p
 unfolding OfType
 lost-bool (ABool b i) mid p h t = absurd (miss (1 ∷ 2 ∷ 3 ∷ []) 0 tt t)
@@ -379,7 +380,7 @@ unfoldable pub branch_numbers : Lent → List ℕ → Ty → ℕ → ℕ → ℕ
 branch_numbers e held w n b c y = operand_numbers e held w n (if y then b else c)
 
 -- x is what the operand gave, o what it gives by definition, and z what its user gives
-module _ (v w : Ty) (z : Answer) (mid new : List ℕ) (p : Pushed) {o : Out (Of v)} {xs : List ℕ} (k : Of v → Work (Of w)) (g : Of v → List ℕ) where
+module _ (v w : Ty) (z : Answer) (mid new : List ℕ) (p : Pushed ℕ) {o : Out (Of v)} {xs : List ℕ} (k : Of v → Work (Of w)) (g : Of v → List ℕ) where
   then-any : {a : Of v} {m : ℕ} → Gave o a xs mid m p → Records w (k a []) (g a) z new (pushed mid m)
       → Records w (followed w o k) (and_then xs o g) z new p
   unfolding followed and_then
@@ -388,28 +389,28 @@ module _ (v w : Ty) (z : Answer) (mid new : List ℕ) (p : Pushed) {o : Out (Of 
     numbers = subst (Reached z new) (ap (push_all (g a)) h.reached ∙ sym (push-append xs (g a) p)) r.numbers;
   })
 
-module _ (w : Ty) (x : Answer) (new : List ℕ) (p : Pushed) {A : Type 0} {o : Out A} {xs : List ℕ} (k : A → Work (Of w)) (g : A → List ℕ) where
+module _ (w : Ty) (x : Answer) (new : List ℕ) (p : Pushed ℕ) {A : Type 0} {o : Out A} {xs : List ℕ} (k : A → Work (Of w)) (g : A → List ℕ) where
   else-any : Lost o xs x new p → Records w (followed w o k) (and_then xs o g) x new p
   unfolding followed and_then Reached
   else-any h = rw (h.is, lost-given h g, append-nil xs) (record { value = said-not w (sym (lost-next h k)); numbers = h.reached })
 
-module _ (w : Ty) (x z : Answer) (mid new : List ℕ) (p : Pushed) {o : Out ℕ} {xs : List ℕ} (k : ℕ → Work (Of w)) (g : ℕ → List ℕ) where
+module _ (w : Ty) (x z : Answer) (mid new : List ℕ) (p : Pushed ℕ) {o : Out ℕ} {xs : List ℕ} (k : ℕ → Work (Of w)) (g : ℕ → List ℕ) where
   pub then-uint : {v m : ℕ} → Records uint o xs x mid p → x ≡ AUint v m → Records w (k v []) (g v) z new (pushed mid m)
       → Records w (followed w o k) (and_then xs o g) z new p
   then-uint h q s = then-any uint w z mid new p k g (gave-uint x mid p h q) s
 
-module _ (w : Ty) (x z : Answer) (mid new : List ℕ) (p : Pushed) {o : Out Ptr} {xs : List ℕ} (k : Ptr → Work (Of w)) (g : Ptr → List ℕ) where
+module _ (w : Ty) (x z : Answer) (mid new : List ℕ) (p : Pushed ℕ) {o : Out Ptr} {xs : List ℕ} (k : Ptr → Work (Of w)) (g : Ptr → List ℕ) where
   pub then-pointer : {r v m : ℕ} → Records pointer o xs x mid p → x ≡ APointer r v m → Records w (k (ptr r v) []) (g (ptr r v)) z new (pushed mid m)
       → Records w (followed w o k) (and_then xs o g) z new p
   then-pointer h q s = then-any pointer w z mid new p k g (gave-pointer x mid p h q) s
 
-module _ (w : Ty) (x z : Answer) (mid new : List ℕ) (p : Pushed) {o : Out Bool} {xs : List ℕ} (k : Bool → Work (Of w)) (g : Bool → List ℕ) where
+module _ (w : Ty) (x z : Answer) (mid new : List ℕ) (p : Pushed ℕ) {o : Out Bool} {xs : List ℕ} (k : Bool → Work (Of w)) (g : Bool → List ℕ) where
   pub then-bool : {v : Bool} {m : ℕ} → Records bool o xs x mid p → x ≡ ABool v m → Records w (k v []) (g v) z new (pushed mid m)
       → Records w (followed w o k) (and_then xs o g) z new p
   then-bool h q s = then-any bool w z mid new p k g (gave-bool x mid p h q) s
 
 -- an answer with no value is handed on
-module _ (w : Ty) (x : Answer) (new : List ℕ) (p : Pushed) {xs : List ℕ} where
+module _ (w : Ty) (x : Answer) (new : List ℕ) (p : Pushed ℕ) {xs : List ℕ} where
   pub else-uint : {o : Out ℕ} (k : ℕ → Work (Of w)) (g : ℕ → List ℕ) → Records uint o xs x new p → OneOf (0 ∷ 2 ∷ 3 ∷ []) (tag_of answer x)
       → Records w (followed w o k) (and_then xs o g) x new p
   else-uint k g h t = else-any w x new p k g (lost-uint x new p h t)
@@ -423,12 +424,12 @@ module _ (w : Ty) (x : Answer) (new : List ℕ) (p : Pushed) {xs : List ℕ} whe
   else-bool k g h t = else-any w x new p k g (lost-bool x new p h t)
 
 -- ---- the same record, where the answer and the buffer are the same
-pub same-record : {w : Ty} {o : Out (Of w)} {xs : List ℕ} {x y : Answer} {mid new : List ℕ} {p : Pushed} → Records w o xs x mid p → new ≡ mid → y ≡ x
+pub same-record : {w : Ty} {o : Out (Of w)} {xs : List ℕ} {x y : Answer} {mid new : List ℕ} {p : Pushed ℕ} → Records w o xs x mid p → new ≡ mid → y ≡ x
     → Records w o xs y new p
 same-record h e q = rw (q, e) h
 
 -- ---- the branch that was taken, node j, and its answer x, handed on or made anew
-module _ (e : Lent) (held : List ℕ) (w : Ty) (n b c j : ℕ) (y : Bool) (x : Answer) (new : List ℕ) (p : Pushed) where
+module _ (e : Lent) (held : List ℕ) (w : Ty) (n b c j : ℕ) (y : Bool) (x : Answer) (new : List ℕ) (p : Pushed ℕ) where
   pub branch-handed : j ≡ (if y then b else c) → Records w (operand e w n j []) (operand_numbers e held w n j) x new p
       → Records w (branch e w n b c y []) (branch_numbers e held w n b c y) x new p
   unfolding branch branch_numbers
@@ -452,6 +453,6 @@ module _ (z : Answer) (at : ℕ) (out : List ℕ) where
   pub says-valid : (rs : List Array) (r v : ℕ) → Says bool at z (valid_in rs r v) → Records bool (valid_in rs r v []) [] z out (pushed out at)
   says-valid rs r v s = still-records bool (valid_in rs r v) at (still-valid rs r v) z s.says out
 
-  pub says-tested : (k v y : ℕ) → Says bool at z (give (test_of k v y)) → Records bool (tested k v y []) [] z out (pushed out at)
+  pub says-tested : (k : Test) (v y : ℕ) → Says bool at z (give (test_of k v y)) → Records bool (tested k v y []) [] z out (pushed out at)
   unfolding tested
   says-tested k v y s = still-records bool (tested k v y) at (still-tested k v y) z s.says out

@@ -5,4 +5,4 @@
 pub mod bounds; // bounds.rt: start and end of a loop
 pub mod leaves; // leaves.rt: variables, constants and cells, with their numbers
 mod marks; // marks.rt: what decides whether the reduced run takes a choice
-pub mod pushes; // pushes.rt: a number pushed onto a buffer
+pub mod pushes; // pushes.rt: a number or a byte pushed onto a buffer

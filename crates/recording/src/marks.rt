@@ -22,26 +22,15 @@ pub fn is_held(held: &[u8; 16], count: u32, to: u32) -> bool
     requires { count ≤ 16 }
     ensures { result ≡ held_reduced (held_of count held.now) to }
 {
-    if to == 0 {
+    let Some(i) = to.checked_sub(1) else {
         return false;
-    }
-    if count < to {
-        return false;
-    }
-    let i = (to - 1) as usize;
-    let one = held[i];
-    one == 1
+    };
+    i < count && held[i as usize] == 1
 }
 
 // Whether the reduced run tracks a place.
 pub fn is_place(own: &[u32; 5256], v: u32) -> bool
     ensures { result ≡ tracked (pair_of own.now) v }
 {
-    if own[129] == v {
-        return true;
-    }
-    if own[130] == v {
-        return true;
-    }
-    false
+    own[129] == v || own[130] == v
 }

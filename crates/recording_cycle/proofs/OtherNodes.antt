@@ -7,7 +7,8 @@ use mathlib.Core.Bool.{Bool}
 use types.Run.{OneOf, hit}
 use denote.Enum.Declared.{tag_of}
 use Rattle.evaluators.specs.declared.nodes.Node.{Node as Taken}
-use Rattle.evaluators.specs.declared.nodes.Node.TheVariants.{Variable as NVariable, Constant as NConstant, Flag as NFlag, Cell as NCell, Arith as NArith, Compare as NCompare, If as NIf, Valid as NValid, InClass as NInClass, Nothing as NNothing}
+use Rattle.evaluators.specs.declared.nodes.Node.TheVariants.{Variable as NVariable, Constant as NConstant, Flag as NFlag, Cell as NCell, Arith as NArith}
+use Rattle.evaluators.specs.declared.nodes.Node.TheVariants.{Compare as NCompare, If as NIf, Valid as NValid, InClass as NInClass, Nothing as NNothing}
 use Rattle.evaluators.specs.contracts.nodes.Node.{the_type as node}
 
 pub node-no-plain-uint : (x : Taken) → ((a : ℕ) → x ≡ NVariable a → ⊥)

@@ -5,7 +5,7 @@ use Prim.Native.Nat.{ℕ, suc, ◌+◌, ◌*◌}
 use native.Mathlib.Omega.{arith as numbers}
 use mathlib.Core.Path.{◌≡◌, refl, sym, ap, subst, ◌∙◌}
 use mathlib.Core.Logic.{◌≢◌}
-use mathlib.Core.Bool.{Bool, true, false}
+use mathlib.Core.Bool.{Bool, true, false, true≢false}
 use mathlib.Core.List.{List, [], ◌∷◌, ◌++◌, append-nil}
 use lib.ListN.{length, get_or, drop}
 use lib.Seq.{drop-nil}
@@ -13,11 +13,14 @@ use lib.Dec.{ltb, leb}
 use types.Run.{OneOf}
 use denote.Enum.Declared.{tag_of}
 use Rattle.std.specs.Prelude.{if◌then◌else◌}
-use Rattle.lists.specs.declared.Found.{Found}
-use Rattle.lists.specs.declared.Found.TheVariants.{At, Nothing}
-use Rattle.model.specs.Table.{Table, Ty, row_at, marked}
+use Rattle.std.specs.Prelude.{Option}
+use Rattle.std.specs.Prelude.{Some, None}
+use Rattle.model.specs.Table.{Table, Ty, row_at, row_kind, marked}
 use Rattle.model.specs.Table.Ty.{uint, pointer}
-use Rattle.model.specs.Table.Row.{store, loop, loop_end}
+use Rattle.model.specs.Table.Row.{store, loop, loop_end, class_loop}
+use Rattle.kinds.specs.declared.line_kind.Row.{Row as RowName}
+use Rattle.kinds.specs.declared.line_kind.Row.TheVariants as row_name
+use Rattle.kinds.specs.Kinds.{row_said}
 use Rattle.model.specs.Work.{Out, Work, give}
 use Rattle.model.specs.State.{State}
 use Rattle.model.specs.Eval.{Of, Ptr, ptr, next_start, array_of}
@@ -25,8 +28,8 @@ use Rattle.model.specs.Step.{Move, loop_at, past_end, node}
 use Rattle.model.specs.Writer.{given, node_choices, repeat_choices, row_choices}
 use Rattle.prepared.specs.Own.{places_of, own_table}
 use Rattle.evaluators.specs.contracts.answers.Answer.{the_type as answer}
-use Rattle.evaluators.specs.declared.answers.Failure.TheVariants.{Fails, Stuck}
-use Rattle.evaluators.specs.declared.answers.Reason.TheVariants.{PastLength}
+use Rattle.machine.specs.declared.Failure.TheVariants.{Fails, Stuck}
+use Rattle.machine.specs.declared.Reason.TheVariants.{PastLength}
 use Rattle.evaluators.specs.declared.answers.Answer.{Answer}
 use Rattle.evaluators.specs.declared.answers.Answer.TheVariants.{Uint as AUint, Pointer as APointer}
 use Rattle.evaluators.specs.declared.arrays.Target.{Target}
@@ -45,17 +48,18 @@ use Rattle.row_kinds.specs.CodeRows.{lost_of, fits_in, size_for, cell_gets, plac
 use Rattle.row_kinds.proofs.PutLaws.{lends, works-same}
 use Rattle.row_kinds.proofs.WriteLaws.{works-by, store-first, store-second, store_both}
 use Rattle.calls.proofs.StackLaws.{loops-split}
-use Rattle.row_kinds.proofs.LoopLaws.{entry-loops, open-first, open-second, open-both, kind-read, kind-38, row-there}
+use Rattle.row_kinds.proofs.LoopLaws.{entry-loops, open-first, open-second, open-both, kind-read, loop-above, no-loop, row-there}
 use Rattle.row_kinds.proofs.LoopLaws.{repeat-none, repeat-ends, repeat-loop, repeat-other}
 use Rattle.recording.specs.CodePushes.{Pushed, pushed, push_all}
 use Rattle.recording.specs.CodeRecords.{Plain, held_of, pair_of, ReachedBy, Records, Recorded}
 use Rattle.recording_rows.specs.CodeMoves.{ReachedMove, RowRecords}
 use Rattle.recording.proofs.PushLaws.{push-append}
+use Rattle.recording_rows.proofs.RowLaws.{is_reduced, not-reduced}
 use Rattle.recording.proofs.RecordLaws.{Gave, Lost, gave-uint, gave-pointer, lost-uint, lost-pointer, lost-given, says-next}
 use Rattle.recording.proofs.NumberLaws.{row-numbers, row-operand}
 
 -- ---- the last part of a row keeps the place
-module _ (out : List ℕ) (at : ℕ) {p : Pushed} (h : pushed out at ≡ p) where
+module _ (out : List ℕ) (at : ℕ) {p : Pushed ℕ} (h : pushed out at ≡ p) where
   cell-kept : (room start size i x : ℕ) → ReachedMove (cell_gets room start size i x at) out p
   unfolding cell_gets ReachedMove ReachedBy
   cell-kept room start size i x = go (ltb i size) (ltb (start + i) room)
@@ -75,10 +79,10 @@ module _ (out : List ℕ) (at : ℕ) {p : Pushed} (h : pushed out at ≡ p) wher
   target-kept own room Missing i x = h
   target-kept own room Unknown i x = tt
 
-  leave-kept : (f : Found) (a v depth : ℕ) → ReachedMove (leave_of f a v depth at) out p
+  leave-kept : (f : Option ℕ) (a v depth : ℕ) → ReachedMove (leave_of f a v depth at) out p
   unfolding ReachedMove ReachedBy
-  leave-kept (At next) a v depth = h
-  leave-kept Nothing a v depth = tt
+  leave-kept (Some next) a v depth = h
+  leave-kept None a v depth = tt
 
   entry_kept : (own ns : List ℕ) (here row : ℕ) (c : Bool) (from upto depth : ℕ) (again : Bool)
       → ReachedMove (entry_of own ns here row c from upto depth again at) out p
@@ -98,12 +102,12 @@ module _ (out : List ℕ) (at : ℕ) {p : Pushed} (h : pushed out at ≡ p) wher
       go false d = tt
 
 -- ---- the numbers xs of an operand that comes to o, then those that go with its value
-lost-last : {A : Type 0} {o : Out A} {xs mid : List ℕ} {p : Pushed} {x : Answer} {z : Worked} → Lost o xs x mid p → z ≡ lost_of x
+lost-last : {A : Type 0} {o : Out A} {xs mid : List ℕ} {p : Pushed ℕ} {x : Answer} {z : Worked} → Lost o xs x mid p → z ≡ lost_of x
     → ReachedMove z mid (push_all xs p)
 unfolding ReachedMove
 lost-last h e = rw (e, h.is) h.reached
 
-module _ {A : Type 0} {o : Out A} {xs mid : List ℕ} {p : Pushed} (g : A → List ℕ) where
+module _ {A : Type 0} {o : Out A} {xs mid : List ℕ} {p : Pushed ℕ} (g : A → List ℕ) where
   lost-move : {x : Answer} {z : Worked} → Lost o xs x mid p → z ≡ lost_of x → ReachedMove z mid (push_all (xs ++ given o g) p)
   lost-move h e = rw (lost-given h g, append-nil xs) (lost-last h e)
 
@@ -121,13 +125,14 @@ works-anywhere : {own stack : List ℕ} {m : Machine} {cells : List ℕ} {z : Wo
 works-anywhere k i j h = works-same h (ap k (drop-nil i ∙ sym (drop-nil j)))
 
 -- ---- what row 39 asks for, of the innermost of its open loops, is what entering that loop asks for
-pub repeat-fits : (own ns rows starts ends : List ℕ) (here d : ℕ) {n k : ℕ} → n ≡ suc d → k ≡ get_or own (4 * (34 + 1024 + get_or rows d 0) + 0) 0 → k ≡ 38
+pub repeat-fits : (own ns rows starts ends : List ℕ) (here d : ℕ) {n k : ℕ} → n ≡ suc d → k ≡ get_or own (4 * (34 + 1024 + get_or rows d 0) + 0) 0
+    → row_kind k ≡ loop
     → RepeatFits own ns rows starts ends here n → LoopFits own ns here (get_or rows d 0) d
-repeat-fits own ns rows starts ends here d ed ek e f = record {
+repeat-fits own ns rows starts ends here d ed ek e f = let above = loop-above false e in record {
   decls = f.decls;
   rows = f.rows;
   here = f.here;
-  row = row-there own (get_or rows d 0) f.words (kind-read own (get_or rows d 0) ek) (omega numbers);
+  row = row-there own (get_or rows d 0) f.words (kind-read own (get_or rows d 0) ek) (omega (numbers, above));
   depth = omega (numbers, f.loops, ed);
   numbers = f.numbers;
   bools = f.bools;
@@ -144,7 +149,7 @@ module _ (own : List ℕ) (m : Machine) (cells held : List ℕ) (plain : Plain o
   ks = held_of m.count held
 
   -- an operand, as the model says it
-  as-node : (stack : List ℕ) (w : Ty) (n : ℕ) {x : Answer} {out : List ℕ} {p : Pushed} → Recorded w (lends own m cells) held 1024 n x out p
+  as-node : (stack : List ℕ) (w : Ty) (n : ℕ) {x : Answer} {out : List ℕ} {p : Pushed ℕ} → Recorded w (lends own m cells) held 1024 n x out p
       → Records w (node [] T (S stack) w n []) (node_choices (pair_of own) T ks (S stack) w n) x out p
   as-node stack w n {x} {out} {p} h =
       subst (λ (k : Work (Of w)). Records w (k []) (node_choices (pair_of own) T ks (S stack) w n) x out p)
@@ -270,10 +275,10 @@ module _ (own : List ℕ) (m : Machine) (cells held : List ℕ) (plain : Plain o
 
     module _ {from i : ℕ} (ex : x ≡ AUint from i) {k : ℕ} (ek : k ≡ get_or own (4 * (34 + 1024 + row) + 0) 0) where
       pub repeat-recorded : (last : List ℕ) (n : ℕ) {z : Worked} → RepeatFits own m.numbers m.loop_rows m.starts m.ends m.row m.«open»
-          → k ≡ 38 → pushed last n ≡ push_all (on_next from) (pushed before 0)
+          → row_kind k ≡ loop → pushed last n ≡ push_all (on_next from) (pushed before 0)
           → z ≡ entry_of own m.numbers m.row row false from end d true n → RowRecords own m cells held loop_end a b c z before last
       repeat-recorded last n {z} f ek38 h e = record {
-        works = λ stack. repeat-loop own stack [] m cells a b c 0 d ed x px ex ek false (kind-38 ek38)
+        works = λ stack. repeat-loop own stack [] m cells a b c 0 d ed x px ex ek false ek38
             (works-by (works-anywhere (loop_at (places_of own) T (outer own stack m cells d) row loop from end (give (suc m.row))) n i
             (entry-loops own stack m cells [] row from end d true n
             (repeat-fits own m.numbers m.loop_rows m.starts m.ends m.row d ed ek ek38 f) f.loop_rows f.starts f.ends)) e);
@@ -282,9 +287,15 @@ module _ (own : List ℕ) (m : Machine) (cells held : List ℕ) (plain : Plain o
       }
 
       -- its row opens no loop
-      pub repeat-no-loop : k ≢ 38 → RowRecords own m cells held loop_end a b c (Not Stuck 0) before before
+      pub repeat-no-loop : (r : RowName) → row_said r ≡ row_kind k → r ≢ row_name.Loop → RowRecords own m cells held loop_end a b c (Not Stuck 0) before before
       unfolding ReachedMove ReachedBy
-      repeat-no-loop h = record { works = λ stack. repeat-other own stack [] m cells a b c 0 d ed x px ex ek h other; numbers = λ stack. tt }
+      repeat-no-loop r is h = record {
+        works = λ stack. repeat-other own stack [] m cells a b c 0 d ed x px ex ek (no-loop r k h class is);
+        numbers = λ stack. tt;
+      }
         where
-          other : k ≢ 42
-          other e = let q = kind-read own row ek in omega (numbers, plain.rows row (omega (numbers, q, e)), q, e)
+          class : r ≢ row_name.ClassLoop
+          class i =
+              let e : class_loop ≡ row_kind k = ap row_said (sym i) ∙ is in
+              let q = kind-read own row ek in
+              true≢false (ap is_reduced e ∙ not-reduced k (λ h. omega (numbers, plain.rows row (omega (numbers, q, h)), q)))

@@ -3,21 +3,28 @@
 -- Assumes nothing.
 use Prim.Native.Nat.{ℕ, ◌<◌, ◌≤◌, ◌+◌, ◌*◌}
 use native.Mathlib.Omega.{arith}
+use native.Mathlib.Decide.{dec_le}
 use mathlib.Core.Path.{◌≡◌, refl, sym, ap, subst, ◌∙◌}
 use mathlib.Core.Logic.{◌≢◌}
-use mathlib.Core.Bool.{Bool, true, false}
+use mathlib.Core.Bool.{Bool, true, false, not, ◌&&◌, ◌||◌, true≢false, false≢true}
 use mathlib.Core.List.{List, []}
-use lib.ListN.{length, get_or}
-use lib.Dec.{leb}
-use borrow.Author.Tests.{le-ltb}
+use lib.ListN.{length, get_or, get_or-eq_default}
+use lib.Dec.{leb, ltb}
+use borrow.Author.Tests.{le-ltb, leb-true, ltb-true}
+use Rattle.lists.specs.Tab.{all}
+use Rattle.lists.proofs.TabLaws.{all-at}
 use Rattle.std.specs.Prelude.{if◌then◌else◌}
-use Rattle.model.specs.Table.{Ty, Row, type_at, row_at, row_kind, opens_procedure, at_end}
+use Rattle.model.specs.Table.{Ty, Row, type_at, row_at, row_kind, row_kinds, opens_procedure, at_end}
 use Rattle.model.specs.Table.Ty.{bool, uint, pointer}
-use Rattle.model.specs.Table.Row.{skip, assign, assert, assume, array}
+use Rattle.model.specs.Table.Row.{skip, assign, store, assert, assume, array, loop, loop_end, reduced_store, reduced_array, class_loop}
+use Rattle.model.specs.Table.Row.{procedure, returns, call, no_row}
+use Rattle.kinds.specs.declared.line_kind.Row.{Row as RowName}
+use Rattle.kinds.specs.declared.line_kind.Row.TheVariants as row_name
+use Rattle.kinds.specs.Kinds.{row_said}
 use Rattle.model.specs.Step.{row_rule}
 use Rattle.model.specs.Writer.{node_choices, row_choices, step_choices}
 use Rattle.prepared.specs.Own.{places_of, decls_of, rows_of, own_table}
-use Rattle.evaluators.specs.declared.answers.Failure.TheVariants.{Stuck}
+use Rattle.machine.specs.declared.Failure.TheVariants.{Stuck}
 use Rattle.evaluators.specs.declared.answers.Answer.{Answer}
 use Rattle.evaluators.specs.declared.answers.Answer.TheVariants.{Bool as ABool, Uint as AUint, Pointer as APointer, Not as NoValue}
 use Rattle.calls.specs.Stack.{depth_of}
@@ -42,7 +49,7 @@ use Rattle.recording.proofs.NumberLaws.{row-numbers}
 use Rattle.recording.proofs.PushLaws.{push-none}
 
 -- ---- a row has its operand's place, if it has the place of each value that the operand may give
-module _ (out : List ℕ) (p : Pushed) where
+module _ (out : List ℕ) (p : Pushed ℕ) where
   pub on-bool : (k : Bool → ℕ → Worked) (x : Answer) → ((b : Bool) (at : ℕ) → pushed out at ≡ p → ReachedMove (k b at) out p)
       → Reached x out p → ReachedMove (on_bool k x) out p
   unfolding on_bool Reached ReachedMove ReachedBy
@@ -167,63 +174,118 @@ module _ (own : List ℕ) (m : Machine) (cells held before after : List ℕ) whe
           (on-uint after _ _ x (lay-reached after _ own m.numbers m.lengths m.shapes m.count (length cells) false a) h.numbers);
     })
 
+-- ---- the rows that only a reduced table has
+abbrev pub is_reduced : Row → Bool
+is_reduced skip = false
+is_reduced assign = false
+is_reduced store = false
+is_reduced assert = false
+is_reduced assume = false
+is_reduced array = false
+is_reduced loop = false
+is_reduced loop_end = false
+is_reduced reduced_store = true
+is_reduced reduced_array = true
+is_reduced class_loop = true
+is_reduced procedure = false
+is_reduced returns = false
+is_reduced call = false
+is_reduced no_row = false
+
+reduced-kinds : all 46 (λ k. not (is_reduced (row_kind k)) || (leb 40 k && ltb k 43)) ≡ true
+unfolding all row_kind
+reduced-kinds = refl
+
+pub not-reduced : (k : ℕ) → (40 ≤ k → 43 ≤ k) → is_reduced (row_kind k) ≡ false
+unfolding row_kind
+not-reduced k h = elim (dec_le 46 k) [
+  | yes past ↦ ap is_reduced (get_or-eq_default row_kinds no_row {n = k} past)
+  | no below ↦ go (is_reduced (row_kind k)) (leb 40 k) (ltb k 43) refl refl
+      (all-at 46 (λ k. not (is_reduced (row_kind k)) || (leb 40 k && ltb k 43)) reduced-kinds k (omega arith))
+]
+  where
+    go : (b p q : Bool) → leb 40 k ≡ p → ltb k 43 ≡ q → (not b || (p && q)) ≡ true → b ≡ false
+    go false p q e f g = refl
+    go true true true e f g = let l = leb-true 40 k e in let u = ltb-true k 43 f in let m = h l in absurd (omega (arith, u, m))
+    go true true false e f g = absurd (false≢true g)
+    go true false q e f g = absurd (false≢true g)
+
 -- ---- the row where the record stands, which is there: k, a, b and c are its words, as the code reads them
 module _ (own stack : List ℕ) (m : Machine) (cells held before : List ℕ) (here : m.row < rows_of own) {k a b c : ℕ}
     (ek : k ≡ get_or own (4 * (34 + 1024 + m.row) + 0) 0)
     (ea : a ≡ (row_at (own_table own) m.row).a) (eb : b ≡ (row_at (own_table own) m.row).b) (ec : c ≡ (row_at (own_table own) m.row).c) where
-  -- the numbers of the step are those of a row of the kind n
-  numbers-of : (n : ℕ) → k ≡ n → opens_procedure (row_kind n) ≡ false
-      → numbers_at own stack m cells held (row_kind n) a b c
+  -- the numbers of the step are those of the row
+  numbers-of : (r : Row) → row_kind k ≡ r → opens_procedure r ≡ false
+      → numbers_at own stack m cells held r a b c
       ≡ step_choices (pair_of own) (own_table own) (held_of m.count held) (own_state own stack m cells) m.row
   unfolding step_choices
-  numbers-of n e o = rw (ends_by own m.row here ek ∙ ap (λ (j : ℕ). opens_procedure (row_kind j)) e ∙ o) (rw (← e, kind-read own m.row ek, ea, eb, ec))
+  numbers-of r e o = rw (ends_by own m.row here ek ∙ ap opens_procedure e ∙ o) (rw (← e, kind-read own m.row ek, ea, eb, ec))
 
   -- 43 has none
-  pub records-ends : (map : List ℕ) → CallsFit own map stack m cells → k ≡ 43 → StepRecords own stack m cells held (Moves (Returns 0) 0) before before
-  unfolding step_choices row_kind ReachedMove
+  pub records-ends : (map : List ℕ) → CallsFit own map stack m cells → row_kind k ≡ procedure
+      → StepRecords own stack m cells held (Moves (Returns 0) 0) before before
+  unfolding step_choices ReachedMove
   records-ends map calling e = record {
     works = step-ends own stack m cells [] 0 here ek ea eb ec map calling e;
-    numbers = rw (ends_by own m.row here ek ∙ ap (λ (j : ℕ). opens_procedure (row_kind j)) e) (sym (push-none (pushed before 0)));
+    numbers = rw (ends_by own m.row here ek ∙ ap opens_procedure e) (sym (push-none (pushed before 0)));
   }
 
   module _ (after : List ℕ) where
-    -- a row of the kind n
-    pub records-step : (n : ℕ) {z : Worked} → k ≡ n → opens_procedure (row_kind n) ≡ false
-        → RowRecords own m cells held (row_kind n) a b c z before after → StepRecords own stack m cells held z before after
-    records-step n e o h = record {
-      works = step_of own stack m cells [] 0 here ek ea eb ec n e o (h.works stack);
-      numbers = rw (numbers-of n e o) at (h.numbers stack);
+    -- a row that goes by its own rule
+    pub records-step : (r : Row) {z : Worked} → row_kind k ≡ r → opens_procedure r ≡ false
+        → RowRecords own m cells held r a b c z before after → StepRecords own stack m cells held z before after
+    records-step r e o h = record {
+      works = step_of own stack m cells [] 0 here ek ea eb ec r e o (h.works stack);
+      numbers = rw (numbers-of r e o) at (h.numbers stack);
     }
 
-    pub records-none : Plain own → k ≢ 32 → k ≢ 33 → k ≢ 34 → k ≢ 35 → k ≢ 36 → k ≢ 37 → k ≢ 38 → k ≢ 39 → k ≢ 43 → k ≢ 44 → k ≢ 45
-        → StepRecords own stack m cells held (Not Stuck 0) before after
+    -- the code reads none of the rows that a plain table may have
+    pub records-none : Plain own → (r : RowName) → row_said r ≡ row_kind k → r ≢ row_name.Skip → r ≢ row_name.Assign → r ≢ row_name.Store
+        → r ≢ row_name.Assert → r ≢ row_name.Assume → r ≢ row_name.Array → r ≢ row_name.Loop → r ≢ row_name.LoopEnd → r ≢ row_name.Procedure
+        → r ≢ row_name.Return → r ≢ row_name.Call → StepRecords own stack m cells held (Not Stuck 0) before after
     unfolding ReachedMove ReachedBy
-    records-none plain h32 h33 h34 h35 h36 h37 h38 h39 h43 h44 h45 = record {
-      works = step-none own stack m cells [] 0 here ek ea eb ec h32 h33 h34 h35 h36 h37 h38 h39 (other 40 (omega arith) (omega arith))
-          (other 41 (omega arith) (omega arith)) (other 42 (omega arith) (omega arith)) h43 h44 h45;
-      numbers = tt;
-    }
+    records-none plain r e skips assigns stores asserts assumes arrays loops ends procedures gives calls = go r e refl
       where
-        other : (n : ℕ) → 40 ≤ n → n ≤ 42 → k ≢ n
-        other n l h e = let q = kind-read own m.row ek in omega (arith, plain.rows m.row (omega (arith, q, e, l)), q)
+        reduced : is_reduced (row_kind k) ≡ false
+        reduced = not-reduced k (λ h. let q = kind-read own m.row ek in omega (arith, plain.rows m.row (omega (arith, q, h)), q))
+
+        none : row_kind k ≡ no_row → StepRecords own stack m cells held (Not Stuck 0) before after
+        none h = record { works = step-none own stack m cells [] 0 here ek ea eb ec h; numbers = tt }
+
+        go : (q : RowName) → row_said q ≡ row_kind k → r ≡ q → StepRecords own stack m cells held (Not Stuck 0) before after
+        go row_name.Skip h i = absurd (skips i)
+        go row_name.Assign h i = absurd (assigns i)
+        go row_name.Store h i = absurd (stores i)
+        go row_name.Assert h i = absurd (asserts i)
+        go row_name.Assume h i = absurd (assumes i)
+        go row_name.Array h i = absurd (arrays i)
+        go row_name.Loop h i = absurd (loops i)
+        go row_name.LoopEnd h i = absurd (ends i)
+        go row_name.ReducedStore h i = absurd (true≢false (ap is_reduced h ∙ reduced))
+        go row_name.ReducedArray h i = absurd (true≢false (ap is_reduced h ∙ reduced))
+        go row_name.ClassLoop h i = absurd (true≢false (ap is_reduced h ∙ reduced))
+        go row_name.Procedure h i = absurd (procedures i)
+        go row_name.Return h i = absurd (gives i)
+        go row_name.Call h i = absurd (calls i)
+        go row_name.Unknown h i = none (sym h)
 
     -- 44 and 45: x is the operand's answer
     module _ (map : List ℕ) (calling : CallsFit own map stack m cells) (x : Answer) where
-      pub records-returns : {z : Worked} → k ≡ 44 → Recorded uint (lends own m cells) held 1024 a x after (pushed before 0) → z ≡ returned_of x
+      pub records-returns : {z : Worked} → row_kind k ≡ returns → Recorded uint (lends own m cells) held 1024 a x after (pushed before 0) → z ≡ returned_of x
           → StepRecords own stack m cells held z before after
-      unfolding row_choices row_kind
+      unfolding row_choices
       records-returns e h q = rw q (record {
         works = step-returns own stack m cells [] 0 here ek ea eb ec map calling e x h.value;
-        numbers = rw (listed own stack m cells held uint a ∙ numbers-of 44 e refl) at (return-reached after _ x h.numbers);
+        numbers = rw (listed own stack m cells held uint a ∙ numbers-of returns e refl) at (return-reached after _ x h.numbers);
       })
 
-      pub records-calls : {z : Worked} → k ≡ 45 → Within own m cells → (depth j : ℕ) → depth ≡ depth_of stack → j ≡ a
+      pub records-calls : {z : Worked} → row_kind k ≡ call → Within own m cells → (depth j : ℕ) → depth ≡ depth_of stack → j ≡ a
           → Recorded uint (lends own m cells) held 1024 b x after (pushed before 0) → z ≡ called_of depth j x
           → StepRecords own stack m cells held z before after
-      unfolding row_choices row_kind
+      unfolding row_choices
       records-calls e fits depth j ed ej h q = rw q (record {
         works = step-calls own stack m cells [] 0 here ek ea eb ec map calling e fits depth j ed ej x h.value;
-        numbers = rw (listed own stack m cells held uint b ∙ numbers-of 45 e refl) at (call-reached after _ depth j x h.numbers);
+        numbers = rw (listed own stack m cells held uint b ∙ numbers-of call e refl) at (call-reached after _ depth j x h.numbers);
       })
 
 -- past the last row a return of 0 has no numbers

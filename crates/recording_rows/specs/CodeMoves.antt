@@ -12,7 +12,7 @@ use Rattle.recording.specs.CodePushes.{Pushed, pushed, push_all}
 use Rattle.recording.specs.CodeRecords.{held_of, pair_of, ReachedBy}
 
 -- the buffer and the place after a row's numbers are p; a row that comes to no end leaves them free
-unfoldable pub ReachedMove : Worked → List ℕ → Pushed → Type 0
+unfoldable pub ReachedMove : Worked → List ℕ → Pushed ℕ → Type 0
 ReachedMove (Moves x at) out p = pushed out at ≡ p
 ReachedMove (Ends e at) out p = pushed out at ≡ p
 ReachedMove (Not why at) out p = ReachedBy why at out p

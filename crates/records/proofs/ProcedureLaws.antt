@@ -11,7 +11,8 @@ use borrow.Author.Tests.{ltb-true, lt-ltb, leb-true}
 use Rattle.std.specs.Prelude.{if◌then◌else◌}
 use Rattle.lists.specs.Tab.{sum}
 use Rattle.lists.proofs.BoolLaws.{and_left, and_right}
-use Rattle.model.specs.Table.{Stretch, Table, between, home, is_opening, locals_at, locals_of, marked_uint, none_open, open_at, opening, row_at, row_kind, type_at}
+use Rattle.model.specs.Table.{Stretch, Table, between, home, is_opening, locals_at, locals_of, marked_uint}
+use Rattle.model.specs.Table.{none_open, open_at, opening, row_at, row_kind, type_at}
 use Rattle.model.specs.Table.{within}
 use Rattle.model.specs.Table.Ty.{uint}
 use Rattle.model.specs.Table.Row.{call}

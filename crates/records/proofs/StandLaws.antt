@@ -9,19 +9,18 @@ use mathlib.Core.List.{List, [], ◌∷◌, map}
 use lib.ListN.{get_or, drop}
 use lib.Seq.{drop-drop}
 use lib.Dec.{leb, eqb}
-use borrow.Author.Tests.{le-leb, lt-leb, eq-eqb, ne_eqb}
+use borrow.Author.Tests.{le-leb, lt-leb, ne_eqb}
 use Rattle.std.specs.Prelude.{if◌then◌else◌}
+use Rattle.std.specs.Prelude.{Some, None}
+use Rattle.std.specs.Bool.{then_some}
 use Rattle.lists.specs.Tab.{listed, tab}
 use Rattle.model.specs.Table.{Table, row_at, Nest, nested, nest_at, open_at}
 use Rattle.model.specs.Table.Nest.{opens, closes, neither}
 use Rattle.model.specs.State.{Loop, position}
-use Rattle.kinds.specs.Code.{nest, nest_number}
 use Rattle.calls.specs.Stack.{loops_of}
 use Rattle.calls.proofs.StackLaws.{loops-split}
-use Rattle.records.specs.declared.loops.Walk.{Walk}
-use Rattle.records.specs.declared.loops.Walk.TheVariants.{On, Differs}
 use Rattle.records.specs.Record.{same_numbers, stands_right, starts_within}
-use Rattle.records.specs.CodeRecord.{rows_of, nested_by, met_by, walk_out, closed_in, Walks}
+use Rattle.records.specs.CodeRecord.{rows_of, met_by, Walk, walk_out, closed_in, Walks}
 
 -- ---- the rows of the loops
 rows-of : (n : ℕ) (rs ss es : List ℕ) → rows_of n rs ≡ map (λ (l : Loop). l.row) (loops_of n rs ss es)
@@ -30,28 +29,31 @@ rows-of zero rs ss es = refl
 rows-of (suc n) rs ss es = ap (λ (l : List ℕ). get_or rs n 0 ∷ l) (rows-of n rs ss es) ∙ sym (ap (map (λ (l : Loop). l.row)) (loops-split n rs ss es))
 
 module _ (rows : List ℕ) (left i : ℕ) where
-  pub met-none : left ≡ 0 → Differs ≡ met_by rows left i
+  pub met-none : left ≡ 0 → None ≡ met_by rows left i
   unfolding met_by
   met-none e = rw e
 
-  met-by : (n : ℕ) → left ≡ suc n → (if eqb (get_or rows n 0) i then On 0 n else Differs) ≡ met_by rows left i
+  pub met-some : {n x : ℕ} → left ≡ suc n → x ≡ get_or rows n 0 → then_some (eqb x i) (0, n) ≡ met_by rows left i
   unfolding met_by
-  met-by n e = rw e
-
-  pub met-on : {n x : ℕ} → left ≡ suc n → x ≡ get_or rows n 0 → x ≡ i → On 0 n ≡ met_by rows left i
-  met-on {n} e g h = ap (λ (b : Bool). if b then On 0 n else Differs) (sym (eq-eqb (get_or rows n 0) i (sym g ∙ h))) ∙ met-by n e
-
-  pub met-off : {n x : ℕ} → left ≡ suc n → x ≡ get_or rows n 0 → x ≢ i → Differs ≡ met_by rows left i
-  met-off {n} e g h = ap (λ (b : Bool). if b then On 0 n else Differs) (sym (ne_eqb (get_or rows n 0) i (λ z. h (g ∙ z)))) ∙ met-by n e
+  met-some {n} {x} e g = rw (e, ← g) (go (eqb x i))
+    where
+      go : (b : Bool) → then_some {T = ℕ × ℕ} b (0, n) ≡ (if b then Some (0, n) else None)
+      go true = refl
+      go false = refl
 
 -- ---- one row of the walk
-module _ (rows : List ℕ) (nest closed left i : ℕ) where
+-- a row that closes a loop leaves those around it
+nested-closed : (i : ℕ) (os : List ℕ) → nested closes i os ≡ drop 1 os
+nested-closed i [] = refl
+nested-closed i (o ∷ os) = refl
+
+module _ (rows : List ℕ) (closed left i : ℕ) where
   met-walk : (left : ℕ) (os : List ℕ) → walk_out rows (met_by rows left i) os ≡ same_numbers (rows_of left rows) (i ∷ os)
   unfolding met_by rows_of
   met-walk zero os = refl
   met-walk (suc n) os = go (eqb (get_or rows n 0) i)
     where
-      go : (b : Bool) → walk_out rows (if b then On 0 n else Differs) os ≡ (b && same_numbers (rows_of n rows) os)
+      go : (b : Bool) → walk_out rows (if b then Some (0, n) else None) os ≡ (b && same_numbers (rows_of n rows) os)
       go true = refl
       go false = refl
 
@@ -60,36 +62,30 @@ module _ (rows : List ℕ) (nest closed left i : ℕ) where
   met-closed zero r e = rw e (omega numbers)
   met-closed (suc n) r e = rw e (go (eqb (get_or rows n 0) i))
     where
-      go : (b : Bool) → closed_in (if b then On 0 n else Differs) ≤ suc closed
+      go : (b : Bool) → closed_in (if b then Some (0, n) else None) ≤ suc closed
       go true = omega numbers
       go false = omega numbers
 
-  pub walk-met : (r : Walk) → nest ≡ 1 → closed ≡ 0 → r ≡ met_by rows left i → Walks rows nest closed left i r
-  walk-met r e z h = record { most = met-closed left r h; walked = λ os. rw (e, z, h) (met-walk left os) }
+  pub walk-met : (r : Walk) → closed ≡ 0 → r ≡ met_by rows left i → Walks rows opens closed left i r
+  walk-met r z h = record { most = met-closed left r h; walked = λ os. rw (z, h) (met-walk left os) }
 
-  pub walk-inner : {k : ℕ} → nest ≡ 1 → closed ≡ suc k → Walks rows nest closed left i (On k left)
-  walk-inner {k} e z = record { most = omega (numbers, z); walked = λ os. rw (e, z) }
+  pub walk-inner : {k : ℕ} → closed ≡ suc k → Walks rows opens closed left i (Some (k, left))
+  walk-inner {k} z = record { most = omega (numbers, z); walked = λ os. rw z }
 
-  pub walk-closed : nest ≡ 2 → Walks rows nest closed left i (On (closed + 1) left)
-  walk-closed e = record {
+  pub walk-closed : Walks rows closes closed left i (Some (closed + 1, left))
+  walk-closed = record {
     most = omega numbers;
-    walked = λ os. rw e (ap (λ (n : ℕ). same_numbers (rows_of left rows) (drop n os)) (let z : closed + 1 ≡ 1 + closed = omega numbers in z)
-        ∙ ap (same_numbers (rows_of left rows)) (sym (drop-drop closed 1 os)));
+    walked = λ os. ap (λ (n : ℕ). same_numbers (rows_of left rows) (drop n os)) (let z : closed + 1 ≡ 1 + closed = omega numbers in z)
+        ∙ ap (same_numbers (rows_of left rows)) (sym (drop-drop closed 1 os) ∙ ap (drop closed) (sym (nested-closed i os)));
   }
 
-  pub walk-past : nest ≢ 1 → nest ≢ 2 → Walks rows nest closed left i (On closed left)
-  walk-past e h = record { most = omega numbers; walked = λ os. rw (ne_eqb nest 1 e, ne_eqb nest 2 h) }
+  pub walk-past : Walks rows neither closed left i (Some (closed, left))
+  walk-past = record { most = omega numbers; walked = λ os. refl }
 
 -- ---- the walk
-nested-by : (n : Nest) (i : ℕ) (os : List ℕ) → nested n i os ≡ nested_by (nest_number n) i os
-nested-by opens i os = refl
-nested-by closes i [] = refl
-nested-by closes i (o ∷ os) = refl
-nested-by neither i os = refl
-
-before-row : (t : Table) (i k : ℕ) → k ≡ nest (row_at t i).kind → open_at t (suc i) ≡ nested_by k i (open_at t i)
-unfolding open_at nest
-before-row t i k e = nested-by (nest_at t i) i (open_at t i) ∙ rw e
+before-row : (t : Table) (i : ℕ) (n : Nest) → n ≡ nest_at t i → open_at t (suc i) ≡ nested n i (open_at t i)
+unfolding open_at
+before-row t i n e = rw e
 
 module _ (t : Table) (row count : ℕ) (rows : List ℕ) where
   -- what is asked: the loops that are open are those around the row
@@ -100,20 +96,20 @@ module _ (t : Table) (row count : ℕ) (rows : List ℕ) where
   abbrev pub Around : ℕ → ℕ → ℕ → Type 0
   Around closed left i = same_numbers (rows_of left rows) (drop closed (open_at t i)) ≡ around
 
-  module _ (closed left j i : ℕ) (A : Around closed left j) (p : j ≡ suc i) (k : ℕ) (e : k ≡ nest (row_at t i).kind) (r : Walk)
+  module _ (closed left j i : ℕ) (A : Around closed left j) (p : j ≡ suc i) (k : Nest) (e : k ≡ nest_at t i) (r : Walk)
       (W : Walks rows k closed left i r) where
     walks : walk_out rows r (open_at t i) ≡ around
     walks =
         W.walked (open_at t i)
         ∙ ap (λ (os : List ℕ). same_numbers (rows_of left rows) (drop closed os)) (sym (before-row t i k e) ∙ ap (open_at t) (sym p)) ∙ A
 
-    pub around-most : {c n : ℕ} → r ≡ On c n → c ≤ suc closed
+    pub around-most : {c n : ℕ} → r ≡ Some (c, n) → c ≤ suc closed
     around-most q = subst (λ (r : Walk). closed_in r ≤ suc closed) q W.most
 
-    pub around-next : {c n : ℕ} → r ≡ On c n → Around c n i
+    pub around-next : {c n : ℕ} → r ≡ Some (c, n) → Around c n i
     around-next q = sym (ap (λ (r : Walk). walk_out rows r (open_at t i)) q) ∙ walks
 
-    pub around-off : r ≡ Differs → false ≡ around
+    pub around-off : r ≡ None → false ≡ around
     around-off q = sym (ap (λ (r : Walk). walk_out rows r (open_at t i)) q) ∙ walks
 
   pub around-done : (closed left i : ℕ) → Around closed left i → i ≡ 0 → eqb left 0 ≡ around
@@ -146,7 +142,7 @@ module _ (t : Table) (row count : ℕ) (rs ss es : List ℕ) where
   abbrev stands : Bool
   stands = stands_right t (position row (loops_of count rs ss es))
 
-  pub stands-past : t.rows < row → false ≡ stands
+  pub stands-past : t.rows < row → leb row t.rows ≡ stands
   stands-past h = rw (lt-leb row t.rows h)
 
   module _ (h : row ≤ t.rows) {a : Bool} (p : a ≡ around t row count rs) where

@@ -3,12 +3,11 @@
 use Prim.Native.Nat.{ℕ, zero, suc, ◌+◌, ◌≤◌, ◌<◌}
 use native.Mathlib.Omega.{arith as numbers}
 use mathlib.Core.Path.{◌≡◌, refl, sym, ap, ◌∙◌}
-use mathlib.Core.Logic.{◌≢◌}
 use mathlib.Core.Bool.{Bool, true, false, ◌||◌, false≢true}
 use mathlib.Core.List.{List, []}
 use lib.ListN.{length, get_or}
 use lib.Dec.{leb, eqb}
-use borrow.Author.Tests.{le-leb, lt-leb, eq-eqb, ne_eqb}
+use borrow.Author.Tests.{le-leb, lt-leb, eq-eqb}
 use Rattle.std.specs.Prelude.{if◌then◌else◌}
 use Rattle.lists.specs.Tab.{all}
 use Rattle.lists.proofs.TabLaws.{length-tab, at-tab, all_more, all-stop}
@@ -24,7 +23,6 @@ use Rattle.model.proofs.Typing.{classed-none}
 use Rattle.kinds.specs.Kinds.{machine_of}
 use Rattle.prepared.specs.declared.Frame.{Frame}
 use Rattle.prepared.specs.declared.Form.{Form}
-use Rattle.prepared.specs.declared.Form.TheVariants as Form
 use Rattle.prepared.specs.View.{places, kind_of, table_for, form_for, form_in, by_form, bool_or, vars_of, vars_by}
 use Rattle.evaluators.proofs.ViewLaws.{count-arrays}
 use Rattle.machine.specs.declared.Machine.{Machine}
@@ -51,14 +49,9 @@ module _ (c1 c2 k : ℕ) {n : ℕ} (e : n ≡ candidate 0 (pair c1 c2) k) where
   unfolding class_held
   held-not h = rw (← e, lt-leb n most h)
 
-  module _ (h : n ≤ most) {q : ℕ} (d : q ≡ class (pair c1 c2) n) where
-    pub held_by : q ≡ k → true ≡ class_held (pair c1 c2) k
-    unfolding class_held
-    held_by z = rw (← e, le-leb n most h, ← d, eq-eqb q k z)
-
-    pub held-other : q ≢ k → false ≡ class_held (pair c1 c2) k
-    unfolding class_held
-    held-other z = rw (← e, le-leb n most h, ← d, ne_eqb q k z)
+  pub held-is : n ≤ most → {q : ℕ} → q ≡ class (pair c1 c2) n → eqb q k ≡ class_held (pair c1 c2) k
+  unfolding class_held
+  held-is h d = rw (← e, le-leb n most h, ← d)
 
 -- ---- a test of each variable, by a loop: those below i pass it
 module _ (n : ℕ) (test : ℕ → Bool) {whole : Bool} (is : whole ≡ all n test) where

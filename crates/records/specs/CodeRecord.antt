@@ -2,17 +2,16 @@
 -- by its owner, an array by the place where it must start.
 use Rattle.std.specs.Prelude.{◌≡◌, ℕ, zero, suc, ◌≤◌, Bool, true, false, not, ◌&&◌, ◌||◌, List, [], ◌∷◌, get_or, drop, ltb, leb, eqb}
 use Rattle.model.specs.Class.{class_held, pair}
-use Rattle.model.specs.Table.{Table, opening, row_at, row_kind}
+use Rattle.model.specs.Table.{Table, opening, row_at, row_kind, Nest, nested}
 use Rattle.model.specs.State.{Caller, State}
 use Rattle.std.specs.Prelude.{if◌then◌else◌}
+use Rattle.std.specs.Prelude.{Option, Some, None}
 use Rattle.prepared.specs.declared.Frame.{Frame}
 use Rattle.prepared.specs.declared.Form.{Form}
 use Rattle.prepared.specs.declared.Form.TheVariants.{Bool as FBool, Uint as FUint, Class as FClass, Pointer as FPointer}
 use Rattle.prepared.specs.View.{vars_of}
 use Rattle.machine.specs.declared.Machine.{Machine}
 use Rattle.machine.specs.View.{state_by}
-use Rattle.records.specs.declared.loops.Walk.{Walk}
-use Rattle.records.specs.declared.loops.Walk.TheVariants.{On, Differs}
 use Rattle.records.specs.Record.{same_numbers, is_call}
 
 -- ---- the loops: the rows of the first n, innermost first
@@ -20,27 +19,27 @@ unfoldable pub rows_of : ℕ → List ℕ → List ℕ
 rows_of zero rows = []
 rows_of (suc n) rows = get_or rows n 0 ∷ rows_of n rows
 
--- the open loops after row i, which nests by a number, from those before it
-abbrev pub nested_by : ℕ → ℕ → List ℕ → List ℕ
-nested_by nest i os = if eqb nest 1 then i ∷ os else (if eqb nest 2 then drop 1 os else os)
+-- where the walk stands: how many loops are yet to be opened, and how many of the record's are yet to be met; none, where the next is another
+abbrev pub Walk : Type 0
+Walk = Option (ℕ × ℕ)
 
 -- row i opens a loop, with n of the record's left
 unfoldable pub met_by : List ℕ → ℕ → ℕ → Walk
-met_by rows zero i = Differs
-met_by rows (suc n) i = if eqb (get_or rows n 0) i then On 0 n else Differs
+met_by rows zero i = None
+met_by rows (suc n) i = if eqb (get_or rows n 0) i then Some (0, n) else None
 
--- where the walk stands, before the loops os: the record has those that are not closed again
+-- before the loops os: the record has those that are not closed again
 abbrev pub walk_out : List ℕ → Walk → List ℕ → Bool
-walk_out rows (On closed left) os = same_numbers (rows_of left rows) (drop closed os)
-walk_out rows Differs os = false
+walk_out rows (Some w) os = same_numbers (rows_of w.1 rows) (drop w.0 os)
+walk_out rows None os = false
 
 abbrev pub closed_in : Walk → ℕ
-closed_in (On closed left) = closed
-closed_in Differs = 0
+closed_in (Some w) = w.0
+closed_in None = 0
 
-pub record Walks (rows : List ℕ) (nest closed left i : ℕ) (r : Walk) : Type 0 where
+pub record Walks (rows : List ℕ) (nest : Nest) (closed left i : ℕ) (r : Walk) : Type 0 where
   pub most : closed_in r ≤ suc closed
-  pub walked : (os : List ℕ) → walk_out rows r os ≡ same_numbers (rows_of left rows) (drop closed (nested_by nest i os))
+  pub walked : (os : List ℕ) → walk_out rows r os ≡ same_numbers (rows_of left rows) (drop closed (nested nest i os))
 
 -- ---- a caller: row r is a 45 that calls the procedure with the first row q
 unfoldable pub call_of : Table → ℕ → ℕ → Bool

@@ -22,13 +22,13 @@ fn array_fits(f: Frame, start: u32, from: usize, reduced: bool) -> bool
 fn size_for(f: Frame, len: u32, reduced: bool) -> u32
     ensures { result ≡ size_for (places f) len reduced }
 {
-    if reduced {
-        if f.classes {
-            return class_of(f.c1, f.c2, len);
-        }
-        return 0;
+    if !reduced {
+        len
+    } else if f.classes {
+        class_of(f.c1, f.c2, len)
+    } else {
+        0
     }
-    len
 }
 
 // The arrays are as they must be (rules 7.8 to 7.11).
@@ -40,15 +40,12 @@ pub fn arrays_fit(cells: &[u32], f: Frame, m: Machine) -> bool
     }
     let n = m.count as usize;
     let mut from: usize = 0;
-    let mut i: usize = 0;
-    while i < n {
+    for i in 0..n {
         let reduced = m.shapes[i] == 1;
-        if array_fits(f, m.firsts[i], from, reduced) {
-            from = from + size_for(f, m.lengths[i], reduced) as usize;
-            i += 1;
-        } else {
+        if !array_fits(f, m.firsts[i], from, reduced) {
             return false;
         }
+        from += size_for(f, m.lengths[i], reduced) as usize;
     }
     from <= cells.len()
 }

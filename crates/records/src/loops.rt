@@ -2,55 +2,39 @@
 ghost use Rattle.std.specs.Prelude.{◌≡◌, List, ℕ, ◌≤◌, ◌<◌, ◌^◌};
 ghost use Rattle.model.specs.Table.{open_at};
 ghost use Rattle.model.specs.State.{position};
+ghost use Rattle.kinds.specs.Kinds.{nest_said};
 ghost use Rattle.kinds.specs.Code.{table_by, InSorts};
 ghost use Rattle.calls.specs.Stack.{loops_of};
 ghost use Rattle.records.specs.Record.{same_numbers, starts_within, stands_right};
 ghost use Rattle.records.specs.CodeRecord.{rows_of, Walks, met_by};
 
-use kinds::{Counts, nest_of};
+use kinds::{Counts, Nest, nest_of};
 use lists::word_or_zero;
 
-const OPENS: u32 = 1;
-
-const CLOSES: u32 = 2;
-
-// A walk back from a row: so many loops were closed and are yet to be opened, and so many of the record's are yet to be met; or the
+// A walk back from a row: so many loops were closed and are yet to be opened, and so many of the record's are yet to be met. None where the
 // record's next loop is another.
-#[derive(Clone, Copy)]
-pub enum Walk {
-    On(usize, usize),
-    Differs,
-}
+type Walk = Option<(usize, usize)>;
 
 // Row i opens a loop around the row: the record's next one must be at i.
 fn met(rows: &[u32], left: usize, i: usize) -> Walk
     ensures { result ≡ met_by rows.now left i }
 {
-    if left == 0 {
-        return Walk::Differs;
-    }
-    let last = left - 1;
-    if word_or_zero(rows, last) as usize == i {
-        return Walk::On(0, last);
-    }
-    Walk::Differs
+    let last = left.checked_sub(1)?;
+    let row = word_or_zero(rows, last) as usize;
+    (row == i).then_some((0, last))
 }
 
 // Row i passed on the way back, by how it nests.
-fn passed(rows: &[u32], nest: u32, closed: usize, left: usize, i: usize) -> Walk
+fn passed(rows: &[u32], nest: Nest, closed: usize, left: usize, i: usize) -> Walk
     requires { closed < 2 ^ 62 }
-    ensures { Walks rows.now nest closed left i result }
+    ensures { Walks rows.now (nest_said nest) closed left i result }
 {
-    if nest == OPENS {
-        if closed == 0 {
-            return met(rows, left, i);
-        }
-        return Walk::On(closed - 1, left);
+    match nest {
+        Nest::Opens if closed == 0 => met(rows, left, i),
+        Nest::Opens => Some((closed - 1, left)),
+        Nest::Closes => Some((closed + 1, left)),
+        Nest::Neither => Some((closed, left)),
     }
-    if nest == CLOSES {
-        return Walk::On(closed + 1, left);
-    }
-    Walk::On(closed, left)
 }
 
 // The open loops are those around the row (rule 7.3).
@@ -60,16 +44,12 @@ fn loops_around(t: &[u32], counts: Counts, row: u32, open: u32, rows: &[u32]) ->
 {
     let mut closed: usize = 0;
     let mut left = open as usize;
-    let mut i = row as usize;
-    while 0 < i {
-        i -= 1;
+    for i in (0..row as usize).rev() {
         let nest = nest_of(word_or_zero(t, 4 * (counts.decls + counts.nodes + i)));
-        let w = passed(rows, nest, closed, left, i);
-        let Walk::On(c, n) = w else {
+        let Some(next) = passed(rows, nest, closed, left, i) else {
             return false;
         };
-        closed = c;
-        left = n;
+        (closed, left) = next;
     }
     left == 0
 }
@@ -78,9 +58,7 @@ fn loops_around(t: &[u32], counts: Counts, row: u32, open: u32, rows: &[u32]) ->
 fn starts_within<'a>(open: u32, starts: &'a [u32], ends: &'a [u32]) -> bool
     ensures { (rows : List ℕ) → result ≡ starts_within (loops_of «open» rows starts.now ends.now) }
 {
-    let mut n = open as usize;
-    while 0 < n {
-        n -= 1;
+    for n in (0..open as usize).rev() {
         if word_or_zero(ends, n) < word_or_zero(starts, n) {
             return false;
         }
@@ -102,11 +80,7 @@ pub fn stands_right<'a>(
     ensures { result ≡ stands_right (table_by t.now counts)
         (position row (loops_of «open» rows.now starts.now ends.now)) }
 {
-    if counts.rows < row as usize {
-        return false;
-    }
-    if loops_around(t, counts, row, open, rows) {
-        return starts_within(open, starts, ends);
-    }
-    false
+    row as usize <= counts.rows
+        && loops_around(t, counts, row, open, rows)
+        && starts_within(open, starts, ends)
 }

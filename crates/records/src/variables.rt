@@ -21,10 +21,10 @@ fn candidate_of(c1: u32, c2: u32, k: u32) -> u64
 {
     match k {
         0 => 0,
-        1 => c1 as u64,
-        2 => c1 as u64 + 1,
-        3 => c2 as u64,
-        _ => c2 as u64 + 1,
+        1 => u64::from(c1),
+        2 => u64::from(c1) + 1,
+        3 => u64::from(c2),
+        _ => u64::from(c2) + 1,
     }
 }
 
@@ -32,15 +32,11 @@ fn candidate_of(c1: u32, c2: u32, k: u32) -> u64
 fn class_held(f: Frame, k: u32) -> bool
     ensures { result ≡ class_held (pair f.c1 f.c2) k }
 {
-    let n = candidate_of(f.c1, f.c2, k);
-    if 4294967295 < n {
+    let Ok(n) = u32::try_from(candidate_of(f.c1, f.c2, k)) else {
         return false;
-    }
-    let found = class_of(f.c1, f.c2, n as u32);
-    if found == k {
-        return true;
-    }
-    false
+    };
+    let found = class_of(f.c1, f.c2, n);
+    found == k
 }
 
 // A number and a base suit a variable's form, with so many arrays in the record.
@@ -61,12 +57,9 @@ pub fn variables_fit(t: &[u32], f: Frame, m: Machine) -> bool
     ensures { (callers : List Caller) (cells : List ℕ)
         → result ≡ variables_fit (kind_of f) (places f) (table_for t.now f) (state_in t.now f callers m cells) }
 {
-    let mut i: usize = 0;
-    while i < f.counts.decls {
+    for i in 0..f.counts.decls {
         let form = form_of(t, f, i);
-        if variable_fits(f, form, m.numbers[i], m.bases[i], m.count) {
-            i += 1;
-        } else {
+        if !variable_fits(f, form, m.numbers[i], m.bases[i], m.count) {
             return false;
         }
     }
@@ -87,11 +80,8 @@ pub fn locals_idle(t: &[u32], f: Frame, m: Machine, at_work: u32) -> bool
         → result ≡ locals_idle (table_for t.now f) (state_in t.now f callers m cells) }
 {
     let owners = owners_of(t, f.counts);
-    let mut i: usize = 0;
-    while i < f.counts.decls {
-        if may_hold(owners[i], at_work, m.numbers[i]) {
-            i += 1;
-        } else {
+    for i in 0..f.counts.decls {
+        if !may_hold(owners[i], at_work, m.numbers[i]) {
             return false;
         }
     }

@@ -10,34 +10,15 @@ use lists::word_or_zero;
 fn reduced_kind(words: &[u32], kind: u32, i: u32) -> u32
     ensures { result ≡ reduced_kind (marked words.now 2 i) (marked words.now 3 i) kind }
 {
-    if kind == 16 {
-        if is_marked(words, 2, i) {
-            return 27;
-        }
-        return kind;
+    match kind {
+        16 if is_marked(words, 2, i) => 27,
+        19 => 28,
+        26 => 29,
+        34 => 40,
+        37 if is_marked(words, 3, i) => 41,
+        38 if is_marked(words, 2, i) => 42,
+        _ => kind,
     }
-    if kind == 19 {
-        return 28;
-    }
-    if kind == 26 {
-        return 29;
-    }
-    if kind == 34 {
-        return 40;
-    }
-    if kind == 37 {
-        if is_marked(words, 3, i) {
-            return 41;
-        }
-        return kind;
-    }
-    if kind == 38 {
-        if is_marked(words, 2, i) {
-            return 42;
-        }
-        return kind;
-    }
-    kind
 }
 
 // Word i of the reduction.
@@ -56,9 +37,7 @@ pub(crate) fn reduce_words(words: &[u32], out: &mut [u32])
     requires { length out.old ≡ length words.now }
     ensures { out.new ≡ reduce words.now }
 {
-    let mut i: usize = 0;
-    while i < words.len() {
-        out[i] = reduced_word(words, i);
-        i += 1;
+    for (i, word) in out.iter_mut().enumerate() {
+        *word = reduced_word(words, i);
     }
 }

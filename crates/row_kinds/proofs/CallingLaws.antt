@@ -12,31 +12,29 @@ use borrow.Author.Tests.{ltb-true, leb-false}
 use Rattle.std.specs.Prelude.{if◌then◌else◌}
 use Rattle.lists.specs.Tab.{tab, listed}
 use Rattle.lists.proofs.TabLaws.{length-tab}
-use Rattle.model.specs.Table.{Table, Stretch, row_at, row_kind, opening, locals_at}
+use Rattle.model.specs.Table.{Table, row_at, row_kind, opening, locals_at}
 use Rattle.model.specs.Table.Row.{returns, call}
 use Rattle.model.specs.Table.Ty.{uint}
 use Rattle.model.specs.Work.{Out, Work, next, give, wrong}
 use Rattle.model.specs.Work.Out.{gives, stuck}
 use Rattle.model.specs.State.{Value, position, Caller, caller, State, form_of}
 use Rattle.model.specs.State.Value.{Uint}
-use Rattle.model.specs.Eval.{variable_of}
-use Rattle.model.specs.Step.{Move, uints_in, numbers_in, handed_over, hand_over, with_work, argument, call_procedure, give_back, past, set_var, with_var, row_rule}
-use Rattle.model.specs.Step.Move.{to, stop}
-use Rattle.prepared.specs.Own.{places_of, rows_of, own_table}
+use Rattle.model.specs.Step.{Move, uints_in, numbers_in, handed_over, hand_over, with_work, argument, call_procedure, give_back}
+use Rattle.model.specs.Step.{past, set_var, with_var, row_rule}
+use Rattle.model.specs.Step.Move.{to}
+use Rattle.prepared.specs.Own.{places_of, own_table}
 use Rattle.evaluators.specs.declared.answers.Answer.{Answer}
 use Rattle.evaluators.specs.declared.answers.Answer.TheVariants.{Bool as ABool, Uint as AUint, Pointer as APointer, Not as NoValue}
 use Rattle.evaluators.specs.CodeAnswers.{out_of, OfType, Answers, operand}
-use Rattle.calls.specs.declared.Stood.{Stood}
-use Rattle.calls.specs.Stack.{depth_of, loops_of, callers_of}
-use Rattle.calls.specs.CallAndReturn.{CanCall, CanReturn, Called, Returned}
+use Rattle.calls.specs.Stack.{depth_of, callers_of}
 use Rattle.machine.specs.declared.Machine.{Machine}
 use Rattle.machine.specs.declared.Move.TheVariants.{Calls, Returns}
 use Rattle.machine.specs.declared.End.TheVariants.{TooDeep}
 use Rattle.machine.specs.declared.Worked.{Worked}
-use Rattle.machine.specs.declared.Worked.TheVariants.{Moves, Ends, Not}
+use Rattle.machine.specs.declared.Worked.TheVariants.{Moves, Ends}
 use Rattle.machine.specs.View.{own_state}
-use Rattle.machine.specs.CodeMoves.{begun, resumed, called_by, returned_by, state_after, move_out, CanDo, Works, RowWorks, Within, CallsFit}
-use Rattle.row_kinds.specs.CodeRows.{lost_of, on_uint, called_of, returned_of}
+use Rattle.machine.specs.CodeMoves.{called_by, returned_by, state_after, move_out, CanDo, Works, RowWorks, Within, CallsFit}
+use Rattle.row_kinds.specs.CodeRows.{on_uint, called_of, returned_of}
 use Rattle.row_kinds.proofs.PutLaws.{works-same, lost-not, lends}
 
 -- as many callers as the stack says

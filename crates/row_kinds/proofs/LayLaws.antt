@@ -7,8 +7,8 @@ use mathlib.Core.Path.{◌≡◌, refl, sym, ap, ◌∙◌}
 use mathlib.Core.Logic.{◌≢◌}
 use mathlib.Core.List.{List, [], ◌∷◌, ◌++◌}
 use mathlib.Core.Bool.{Bool, true, false, ◌||◌, true≢false}
-use lib.ListN.{length, get_or, set, drop, take, replicate, length-drop}
-use lib.Seq.{get_or-set_same, get_or-set_other, length-take-le, drop-drop}
+use lib.ListN.{length, get_or, set, drop}
+use lib.Seq.{get_or-set_same, get_or-set_other}
 use lib.Dec.{ltb, leb, eqb}
 use borrow.Author.Tests.{ltb-true, ltb-false, leb-false, le-leb, lt-leb}
 use Rattle.std.specs.Prelude.{if◌then◌else◌}
@@ -27,7 +27,7 @@ use Rattle.model.specs.Step.Move.{to, stop}
 use Rattle.prepared.specs.View.{by_form, array_in, arrays_of}
 use Rattle.prepared.specs.Own.{places_of, decls_of, own_form}
 use Rattle.prepared.proofs.VarLaws.{vars-value}
-use Rattle.evaluators.specs.declared.answers.Failure.TheVariants.{Stuck}
+use Rattle.machine.specs.declared.Failure.TheVariants.{Stuck}
 use Rattle.evaluators.specs.declared.answers.Answer.{Answer}
 use Rattle.evaluators.specs.CodeAnswers.{Answers, operand}
 use Rattle.evaluators.proofs.ViewLaws.{count-arrays}
@@ -128,7 +128,8 @@ module _ (own stack : List ℕ) (m : Machine) (cells l : List ℕ) (few : decls_
     abbrev lacking : Bool
     lacking = lacks_room m.count used size (length cells)
 
-    added : add_array (places_of own) pointing len reduced ≡ (if lacking then stop want_of_cells else to (past (with_array (places_of own) pointing len reduced)))
+    added : add_array (places_of own) pointing len reduced
+        ≡ (if lacking then stop want_of_cells else to (past (with_array (places_of own) pointing len reduced)))
     added =
         room-is (length arrays) (cells_laid (places_of own) arrays) size (length cells) (stop want_of_cells) on
         ∙ ap (λ (n : ℕ). if lacks_room n (cells_laid (places_of own) arrays) size (length cells) then stop want_of_cells else on)

@@ -1,6 +1,6 @@
 -- Laws of rows 38, 42 and 39: the open loops, the way out, loop entry, and the loop of a row.
 -- Assumes nothing.
-use Prim.Native.Nat.{ℕ, zero, suc, ◌<◌, ◌≤◌, ◌+◌, ◌*◌, ◌-◌}
+use Prim.Native.Nat.{ℕ, suc, ◌<◌, ◌≤◌, ◌+◌, ◌*◌, ◌-◌}
 use native.Mathlib.Omega.{arith as numbers}
 use native.Mathlib.Decide.{dec_le}
 use native.Mathlib.Numerals.{add-one}
@@ -9,7 +9,7 @@ use mathlib.Core.Logic.{◌≢◌}
 use mathlib.Core.List.{List, [], ◌∷◌}
 use mathlib.Core.Bool.{Bool, true, false, not, ◌||◌, false≢true}
 use lib.ListN.{length, get_or, set, drop, get_or-eq_default}
-use lib.Seq.{ext_get_or, get_or-set_same, get_or-set_other}
+use lib.Seq.{get_or-set_same, get_or-set_other}
 use lib.Dec.{ltb, leb, eqb}
 use borrow.Author.Tests.{ltb-true, lt-ltb, le-ltb, ne_eqb}
 use types.Run.{OneOf}
@@ -17,11 +17,14 @@ use denote.Enum.Declared.{tag_of}
 use Rattle.std.specs.Prelude.{if◌then◌else◌}
 use Rattle.lists.specs.Tab.{tab, listed, all}
 use Rattle.lists.specs.First.{walk}
-use Rattle.lists.specs.declared.Found.{Found}
-use Rattle.lists.specs.declared.Found.TheVariants.{At, Nothing}
-use Rattle.lists.proofs.TabLaws.{length-tab, at-tab, same-tab, all-at}
+use Rattle.std.specs.Prelude.{Option}
+use Rattle.std.specs.Prelude.{Some, None}
+use Rattle.lists.proofs.TabLaws.{same-tab, all-at}
 use Rattle.model.specs.Class.{class}
 use Rattle.model.specs.Table.{Table, Row, row_at, row_kind, row_kinds, matching_end}
+use Rattle.kinds.specs.declared.line_kind.Row.{Row as RowName}
+use Rattle.kinds.specs.declared.line_kind.Row.TheVariants as row_name
+use Rattle.kinds.specs.Kinds.{row_said}
 use Rattle.model.specs.Table.Ty.{uint}
 use Rattle.model.specs.Table.Row.{skip, assign, store, assert, assume, array, loop, loop_end, reduced_store, reduced_array, class_loop}
 use Rattle.model.specs.Table.Row.{procedure, returns, call, no_row}
@@ -34,7 +37,7 @@ use Rattle.model.specs.Step.{Move, go_to, opened, with_here, with_var, enter, lo
 use Rattle.model.specs.Step.Move.{to}
 use Rattle.prepared.specs.Own.{places_of, rows_of, own_table, own_vars}
 use Rattle.evaluators.specs.contracts.answers.Answer.{the_type as answer}
-use Rattle.evaluators.specs.declared.answers.Failure.TheVariants.{Stuck}
+use Rattle.machine.specs.declared.Failure.TheVariants.{Stuck}
 use Rattle.evaluators.specs.declared.answers.Answer.{Answer}
 use Rattle.evaluators.specs.declared.answers.Answer.TheVariants.{Uint as AUint}
 use Rattle.evaluators.specs.CodeAnswers.{Answers, Says, operand}
@@ -45,7 +48,7 @@ use Rattle.machine.specs.declared.Worked.TheVariants.{Moves, Not}
 use Rattle.calls.specs.Stack.{loop_in, loops_of}
 use Rattle.calls.proofs.StackLaws.{loops-split}
 use Rattle.machine.specs.View.{own_state}
-use Rattle.machine.specs.CodeMoves.{columns, entered, exited, state_after, move_out, CanDo, Works, RowWorks}
+use Rattle.machine.specs.CodeMoves.{columns, entered, exited, state_after, move_out, CanDo, Works, RowWorks, RepeatFits, LoopFits, loop_row}
 use Rattle.machine.specs.CodeMoves.{loop_row, iter_of, out_by, outer, LoopFits, LoopWorks}
 use Rattle.row_kinds.specs.CodeRows.{lost_of, fits_in, iter_form, iter_number, way_out, leave_of, entry_of}
 use Rattle.row_kinds.proofs.PutLaws.{works-same, works-stuck, fits_below, vars-iterator, set_to, set-off, lends}
@@ -75,25 +78,25 @@ unfolding matching_end walk
 no-end own row h = let z : rows_of own - suc row ≡ 0 = omega numbers in rw z
 
 module _ (own : List ℕ) (here row : ℕ) {again : Bool} where
-  pub way-again : again ≡ true → At (here + 1) ≡ way_out own here row again
+  pub way-again : again ≡ true → Some (here + 1) ≡ way_out own here row again
   unfolding way_out
   way-again e = rw (e, add-one here)
 
-  pub way-past : again ≡ false → rows_of own ≤ row → Nothing ≡ way_out own here row again
+  pub way-past : again ≡ false → rows_of own ≤ row → None ≡ way_out own here row again
   unfolding way_out
   way-past e h = rw (e, no-end own row h, le-ltb (rows_of own) (rows_of own) (omega numbers))
 
-  pub way-found : {q : ℕ} → again ≡ false → q ≡ matching_end (own_table own) row → q < rows_of own → At (q + 1) ≡ way_out own here row again
+  pub way-found : {q : ℕ} → again ≡ false → q ≡ matching_end (own_table own) row → q < rows_of own → Some (q + 1) ≡ way_out own here row again
   unfolding way_out
   way-found {q} e eq h = rw (e, ← eq, lt-ltb q (rows_of own) h, add-one q)
 
-  pub way-lost : {q : ℕ} → again ≡ false → q ≡ matching_end (own_table own) row → rows_of own ≤ q → Nothing ≡ way_out own here row again
+  pub way-lost : {q : ℕ} → again ≡ false → q ≡ matching_end (own_table own) row → rows_of own ≤ q → None ≡ way_out own here row again
   unfolding way_out
   way-lost {q} e eq h = rw (e, ← eq, le-ltb q (rows_of own) h)
 
-abbrev Near : Found → Type 0
-Near (At q) = q ≤ 256
-Near Nothing = Unit {0}
+abbrev Near : Option ℕ → Type 0
+Near (Some q) = q ≤ 256
+Near None = Unit {0}
 
 module _ (own : List ℕ) (here row : ℕ) (again : Bool) (few : rows_of own ≤ 256) (low : here < 256) where
   near : Near (way_out own here row again)
@@ -101,7 +104,7 @@ module _ (own : List ℕ) (here row : ℕ) (again : Bool) (few : rows_of own ≤
   near = by again
     where
       past : (b : Bool) → ltb (matching_end (own_table own) row) (rows_of own) ≡ b
-          → Near (if b then At (suc (matching_end (own_table own) row)) else Nothing)
+          → Near (if b then Some (suc (matching_end (own_table own) row)) else None)
       past true e = let h : matching_end (own_table own) row < rows_of own = ltb-true _ _ e in omega numbers
       past false e = tt
 
@@ -109,7 +112,7 @@ module _ (own : List ℕ) (here row : ℕ) (again : Bool) (few : rows_of own ≤
       by true = omega numbers
       by false = past (ltb (matching_end (own_table own) row) (rows_of own)) refl
 
-  pub way-near : {x : Found} {q : ℕ} → x ≡ way_out own here row again → x ≡ At q → q ≤ 256
+  pub way-near : {x : Option ℕ} {q : ℕ} → x ≡ way_out own here row again → x ≡ Some q → q ≤ 256
   way-near e f = subst Near (sym e ∙ f) near
 
 -- ---- loop entry
@@ -181,7 +184,7 @@ module _ (own stack : List ℕ) (m : Machine) (cells l : List ℕ) (row : ℕ) (
         by_way q h = record { said = ap (λ (s : State). gives (to s) (drop at l)) (exited-state q); can = (a-below, h) }
 
         past : (b : Bool) → ltb (matching_end (own_table own) row) (rows_of own) ≡ b
-            → Works own stack m cells l (leave_of (if b then At (suc (matching_end (own_table own) row)) else Nothing) a v depth at)
+            → Works own stack m cells l (leave_of (if b then Some (suc (matching_end (own_table own) row)) else None) a v depth at)
             (next ((if◌then◌else◌ {A = Work ℕ} b (give (suc (matching_end (own_table own) row))) wrong) (drop at l)) (λ q. give (to (go_to inside q))))
         past true u =
             let h : matching_end (own_table own) row < rows_of own = ltb-true _ _ u in
@@ -308,7 +311,7 @@ module _ (own stack l : List ℕ) (m : Machine) (cells : List ℕ) (class : Bool
       open-both ey h = works-same (row-uint x (on_first class) px ex (row-uint y (on_both class v) py ey h)) (by-open class)
 
 -- ---- 39
-is_loop : Row → Bool
+abbrev pub is_loop : Row → Bool
 is_loop skip = false
 is_loop assign = false
 is_loop store = false
@@ -325,26 +328,33 @@ is_loop returns = false
 is_loop call = false
 is_loop no_row = false
 
-loop-kinds : all 46 (λ k. not (is_loop (row_kind k)) || (eqb k 38 || eqb k 42)) ≡ true
-unfolding all row_kind is_loop
-loop-kinds = refl
+-- a row that the code reads as no loop
+pub no-loop : (r : RowName) (k : ℕ) → (r ≡ row_name.Loop → ⊥) → (r ≡ row_name.ClassLoop → ⊥) → row_said r ≡ row_kind k → is_loop (row_kind k) ≡ false
+no-loop row_name.Skip k h g e = ap is_loop (sym e)
+no-loop row_name.Assign k h g e = ap is_loop (sym e)
+no-loop row_name.Store k h g e = ap is_loop (sym e)
+no-loop row_name.Assert k h g e = ap is_loop (sym e)
+no-loop row_name.Assume k h g e = ap is_loop (sym e)
+no-loop row_name.Array k h g e = ap is_loop (sym e)
+no-loop row_name.Loop k h g e = absurd (h refl)
+no-loop row_name.LoopEnd k h g e = ap is_loop (sym e)
+no-loop row_name.ReducedStore k h g e = ap is_loop (sym e)
+no-loop row_name.ReducedArray k h g e = ap is_loop (sym e)
+no-loop row_name.ClassLoop k h g e = absurd (g refl)
+no-loop row_name.Procedure k h g e = ap is_loop (sym e)
+no-loop row_name.Return k h g e = ap is_loop (sym e)
+no-loop row_name.Call k h g e = ap is_loop (sym e)
+no-loop row_name.Unknown k h g e = ap is_loop (sym e)
 
-not-loop : (k : ℕ) → k ≢ 38 → k ≢ 42 → is_loop (row_kind k) ≡ false
-unfolding row_kind is_loop
-not-loop k h38 h42 = elim (dec_le 46 k) [
-  | yes h ↦ ap is_loop (get_or-eq_default row_kinds no_row {n = k} h)
-  | no h ↦ go (is_loop (row_kind k))
-      (rw (ne_eqb k 38 h38, ne_eqb k 42 h42) at (all-at 46 (λ k. not (is_loop (row_kind k)) || (eqb k 38 || eqb k 42)) loop-kinds k (omega numbers)))
-]
-  where
-    go : (b : Bool) → (not b || false) ≡ true → b ≡ false
-    go true e = absurd (false≢true e)
-    go false e = refl
+-- a loop's kind is not 0
+pub loop-above : (class : Bool) {k : ℕ} → row_kind k ≡ loop_row class → k ≢ 0
+unfolding row_kind
+loop-above false e z = let q : no_row ≡ loop = rw z at e in absurd (let w : ◌≡◌ {A = ℕ} 0 1 = cc in omega numbers)
+loop-above true e z = let q : no_row ≡ class_loop = rw z at e in absurd (let w : ◌≡◌ {A = ℕ} 0 1 = cc in omega numbers)
 
 -- s is a state, and cs the choices left
 module _ (ps : List ℕ) (t : Table) (s : State) (r x y : ℕ) (out : Work ℕ) (cs : List ℕ) where
   loop-none : (k : Row) → is_loop k ≡ false → stuck ≡ loop_at ps t s r k x y out cs
-  unfolding is_loop
   loop-none skip h = refl
   loop-none assign h = refl
   loop-none store h = refl
@@ -361,14 +371,6 @@ module _ (ps : List ℕ) (t : Table) (s : State) (r x y : ℕ) (out : Work ℕ) 
   loop-none call h = refl
   loop-none no_row h = refl
 
-pub kind-38 : {k : ℕ} → k ≡ 38 → row_kind k ≡ loop_row false
-unfolding row_kind
-kind-38 e = rw e
-
-pub kind-42 : {k : ℕ} → k ≡ 42 → row_kind k ≡ loop_row true
-unfolding row_kind
-kind-42 e = rw e
-
 -- the kind of a row, as the code reads it
 pub kind-read : (own : List ℕ) (r : ℕ) {k : ℕ} → k ≡ get_or own (4 * (34 + 1024 + r) + 0) 0 → k ≡ (row_at (own_table own) r).kind
 kind-read own r e = let q : 4 * (34 + 1024 + r) + 0 ≡ 4 * (34 + 1024 + r) = omega numbers in e ∙ ap (λ (i : ℕ). get_or own i 0) q
@@ -379,6 +381,23 @@ row-there own r long e h = elim (dec_le (length own) (4 * (34 + 1024 + r))) [
   | yes past ↦ let z : (row_at (own_table own) r).kind ≡ 0 = get_or-eq_default own 0 {n = 4 * (34 + 1024 + r)} past in absurd (omega (numbers, z, e, h))
   | no before ↦ omega numbers
 ]
+
+-- what a further round of the innermost loop asks for
+pub repeat-fits : (own : List ℕ) (m : Machine) → RepeatFits own m.numbers m.loop_rows m.starts m.ends m.row m.«open» → m.«open» ≢ 0 → {k : ℕ}
+    → k ≡ get_or own (4 * (34 + 1024 + get_or m.loop_rows (m.«open» - 1) 0) + 0) 0 → (class : Bool) → row_kind k ≡ loop_row class
+    → LoopFits own m.numbers m.row (get_or m.loop_rows (m.«open» - 1) 0) (m.«open» - 1)
+repeat-fits own m fits some {k} read class is =
+    let row : ℕ = get_or m.loop_rows (m.«open» - 1) 0 in
+    let above = loop-above class is in
+    record {
+      decls = fits.decls;
+      rows = fits.rows;
+      here = fits.here;
+      row = row-there own row fits.words (kind-read own row read) (omega (numbers, above));
+      depth = omega (numbers, fits.loops, some);
+      numbers = fits.numbers;
+      bools = fits.bools;
+    }
 
 module _ (own stack l : List ℕ) (m : Machine) (cells : List ℕ) (a b c at : ℕ) where
   abbrev repeating : ℕ → Out Move
@@ -423,8 +442,8 @@ module _ (own stack l : List ℕ) (m : Machine) (cells : List ℕ) (a b c at : �
         repeat-loop class e h =
             works-same (row-uint x (on_next kind) added ex (works-same h (ap (λ (u : Row). on_next u v (drop nx l)) (sym e ∙ kind-is)))) by-split
 
-        pub repeat-other : k ≢ 38 → k ≢ 42 → RowWorks own stack m cells l loop_end a b c (drop at l) (Not Stuck at)
-        repeat-other h38 h42 =
+        pub repeat-other : is_loop (row_kind k) ≡ false → RowWorks own stack m cells l loop_end a b c (drop at l) (Not Stuck at)
+        repeat-other h =
             works-same (row-uint x (on_next kind) added ex (works-stuck
             (loop-none (places_of own) (own_table own) (outer own stack m cells d) row v (get_or m.ends d 0) (give (suc m.row)) (drop nx l) kind
-            (ap is_loop (sym kind-is) ∙ not-loop k h38 h42)))) by-split
+            (ap is_loop (sym kind-is) ∙ h)))) by-split

@@ -23,8 +23,8 @@ use Rattle.prepared.specs.Own.{places_of, own_table}
 use Rattle.evaluators.specs.contracts.answers.Answer.{the_type as answer}
 use Rattle.model.specs.Work.Reason.{past_length}
 use Rattle.evaluators.specs.Reasons.{reason_of}
-use Rattle.evaluators.specs.declared.answers.Reason.{Reason}
-use Rattle.evaluators.specs.declared.answers.Failure.TheVariants.{Fails, Stuck}
+use Rattle.machine.specs.declared.Reason.{Reason}
+use Rattle.machine.specs.declared.Failure.TheVariants.{Fails, Stuck}
 use Rattle.evaluators.specs.declared.answers.Answer.{Answer}
 use Rattle.evaluators.specs.declared.answers.Answer.TheVariants.{Uint as AUint, Pointer as APointer}
 use Rattle.evaluators.specs.declared.arrays.Target.{Target}

@@ -2,8 +2,8 @@
 use Rattle.std.specs.Prelude.{ℕ, suc, ◌+◌, Bool, ◌&&◌, ◌||◌, List, get_or, ltb, leb, eqb}
 use Rattle.std.specs.Prelude.{if◌then◌else◌}
 use Rattle.lists.specs.Tab.{sum}
-use Rattle.lists.specs.declared.Found.{Found}
-use Rattle.lists.specs.declared.Found.TheVariants.{At, Nothing}
+use Rattle.std.specs.Prelude.{Option}
+use Rattle.std.specs.Prelude.{Some, None}
 use Rattle.model.specs.Class.{class, tracked}
 use Rattle.model.specs.Table.{row_at, matching_end}
 use Rattle.prepared.specs.declared.Form.{Form}
@@ -11,8 +11,8 @@ use Rattle.prepared.specs.declared.Form.TheVariants.{Bool as FBool, Uint as FUin
 use Rattle.prepared.specs.Own.{places_of, decls_of, rows_of, own_table, own_form}
 use Rattle.evaluators.specs.declared.arrays.Target.{Target}
 use Rattle.evaluators.specs.declared.arrays.Target.TheVariants.{Array as To, Missing, Unknown}
-use Rattle.evaluators.specs.declared.answers.Failure.TheVariants.{Fails, Stuck}
-use Rattle.evaluators.specs.declared.answers.Reason.TheVariants.{WithoutArray, PastLength}
+use Rattle.machine.specs.declared.Failure.TheVariants.{Fails, Stuck}
+use Rattle.machine.specs.declared.Reason.TheVariants.{WithoutArray, PastLength}
 use Rattle.evaluators.specs.declared.answers.Answer.{Answer}
 use Rattle.evaluators.specs.declared.answers.Answer.TheVariants.{Bool as ABool, Uint as AUint, Pointer as APointer, Not as NoValue}
 use Rattle.machine.specs.declared.End.TheVariants.{AssertFalse, AssumeFalse, WantOfCells, TooDeep}
@@ -133,15 +133,15 @@ abbrev pub iter_number : List ℕ → Bool → ℕ → ℕ
 iter_number ps c x = if c then class ps x else x
 
 -- the row to go to where the loop of a row is not entered: past the row `here` that repeats it, or past its end row; none where no row closes it
-unfoldable pub way_out : List ℕ → ℕ → ℕ → Bool → Found
+unfoldable pub way_out : List ℕ → ℕ → ℕ → Bool → Option ℕ
 way_out own here row again =
-    if again then At (suc here)
-    else (if ltb (matching_end (own_table own) row) (rows_of own) then At (suc (matching_end (own_table own) row)) else Nothing)
+    if again then Some (suc here)
+    else (if ltb (matching_end (own_table own) row) (rows_of own) then Some (suc (matching_end (own_table own) row)) else None)
 
 -- the loop is left by that way
-abbrev pub leave_of : Found → ℕ → ℕ → ℕ → ℕ → Worked
-leave_of (At next) a v depth at = Moves (Leaves a v depth next) at
-leave_of Nothing a v depth at = Not Stuck at
+abbrev pub leave_of : Option ℕ → ℕ → ℕ → ℕ → ℕ → Worked
+leave_of (Some next) a v depth at = Moves (Leaves a v depth next) at
+leave_of None a v depth at = Not Stuck at
 
 -- the loop of a row from a start to an end, inside `depth` open loops
 unfoldable pub entry_of : List ℕ → List ℕ → ℕ → ℕ → Bool → ℕ → ℕ → ℕ → Bool → ℕ → Worked

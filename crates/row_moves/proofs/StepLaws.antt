@@ -17,7 +17,7 @@ use Rattle.model.specs.Table.Nest.{opens}
 use Rattle.model.specs.Work.{Out}
 use Rattle.model.specs.Step.{Move, give_back, row_rule, step_at, step}
 use Rattle.prepared.specs.Own.{places_of, rows_of, own_table}
-use Rattle.evaluators.specs.declared.answers.Failure.TheVariants.{Stuck}
+use Rattle.machine.specs.declared.Failure.TheVariants.{Stuck}
 use Rattle.evaluators.specs.declared.answers.Answer.{Answer}
 use Rattle.evaluators.specs.CodeAnswers.{Answers, operand}
 use Rattle.calls.specs.Stack.{depth_of, callers_of}
@@ -32,31 +32,6 @@ use Rattle.row_kinds.proofs.PutLaws.{works-same, works-stuck, lends}
 use Rattle.row_kinds.proofs.WriteLaws.{works-goes}
 use Rattle.row_kinds.proofs.LoopLaws.{kind-read}
 use Rattle.row_kinds.proofs.CallingLaws.{back-works, returns-works, calls-works}
-
--- ---- kinds that are no row's
-above : (n : ℕ) {k : ℕ} → n ≤ k → k ≢ n → suc n ≤ k
-above n h e = omega arith
-
-small : (k : ℕ) → k < 32 → row_kind k ≡ no_row
-unfolding row_kind
-small k h =
-    get_or-append (replicate 32 no_row)
-    (skip ∷ assign ∷ store ∷ assert ∷ assume ∷ array ∷ loop ∷ loop_end ∷ reduced_store ∷ reduced_array ∷ class_loop ∷ procedure ∷ returns ∷ call ∷ [])
-    no_row k h
-    ∙ get_or-replicate 32 k no_row no_row h
-
-no-row : (k : ℕ) → k ≢ 32 → k ≢ 33 → k ≢ 34 → k ≢ 35 → k ≢ 36 → k ≢ 37 → k ≢ 38 → k ≢ 39 → k ≢ 40 → k ≢ 41 → k ≢ 42 → k ≢ 43
-    → k ≢ 44 → k ≢ 45 → row_kind k ≡ no_row
-unfolding row_kind
-no-row k h32 h33 h34 h35 h36 h37 h38 h39 h40 h41 h42 h43 h44 h45 = elim (dec_le 32 k) [
-  | yes h ↦ get_or-eq_default row_kinds no_row {n = k}
-      (above 45 (above 44 (above 43 (above 42 (above 41 (above 40 (above 39 (above 38 (above 37
-      (above 36 (above 35 (above 34 (above 33 (above 32 h h32) h33) h34) h35) h36) h37) h38) h39) h40) h41) h42) h43) h44) h45)
-  | no h ↦ small k (below-32 h)
-]
-  where
-    below-32 : (32 ≤ k → ⊥) → k < 32
-    below-32 h = omega arith
 
 -- what stands before a row ends there where it is a 43
 pub ends_by : (own : List ℕ) (r : ℕ) {k : ℕ} → r < rows_of own → k ≡ get_or own (4 * (34 + 1024 + r) + 0) 0
@@ -83,42 +58,37 @@ module _ (own stack : List ℕ) (m : Machine) (cells l : List ℕ) (at : ℕ) (h
   unfolding step
   by_end r e o = rw (ends_by own m.row here ek ∙ ap opens_procedure e ∙ o)
 
-  -- a row of the kind n
-  pub step_of : (n : ℕ) {z : Worked} → k ≡ n → opens_procedure (row_kind n) ≡ false → RowWorks own stack m cells l (row_kind n) a b c (drop at l) z
+  -- a row that goes by its own rule
+  pub step_of : (r : Row) {z : Worked} → row_kind k ≡ r → opens_procedure r ≡ false → RowWorks own stack m cells l r a b c (drop at l) z
       → StepWorks own stack m cells l at z
-  step_of n e o h = works-same h (by_kind (row_kind n) (ap row_kind e) o)
+  step_of r e o h = works-same h (by_kind r e o)
 
-  pub step_skip : k ≡ 32 → StepWorks own stack m cells l at (Moves Goes at)
-  unfolding row_kind row_rule
-  step_skip e = step_of 32 e refl (works-goes refl)
-
-  pub step-none : k ≢ 32 → k ≢ 33 → k ≢ 34 → k ≢ 35 → k ≢ 36 → k ≢ 37 → k ≢ 38 → k ≢ 39 → k ≢ 40 → k ≢ 41 → k ≢ 42 → k ≢ 43 → k ≢ 44 → k ≢ 45
-      → StepWorks own stack m cells l at (Not Stuck at)
+  pub step_skip : row_kind k ≡ skip → StepWorks own stack m cells l at (Moves Goes at)
   unfolding row_rule
-  step-none h32 h33 h34 h35 h36 h37 h38 h39 h40 h41 h42 h43 h44 h45 =
-      works-same (works-stuck refl) (by_kind no_row (no-row k h32 h33 h34 h35 h36 h37 h38 h39 h40 h41 h42 h43 h44 h45) refl)
+  step_skip e = step_of skip e refl (works-goes refl)
+
+  pub step-none : row_kind k ≡ no_row → StepWorks own stack m cells l at (Not Stuck at)
+  unfolding row_rule
+  step-none e = works-same (works-stuck refl) (by_kind no_row e refl)
 
   -- 43, 44 and 45
   module _ (map : List ℕ) (calling : CallsFit own map stack m cells) where
-    pub step-ends : k ≡ 43 → StepWorks own stack m cells l at (Moves (Returns 0) at)
-    unfolding row_kind
+    pub step-ends : row_kind k ≡ procedure → StepWorks own stack m cells l at (Moves (Returns 0) at)
     step-ends e =
-        let q = by_end (row_kind 43) (ap row_kind e) refl in
+        let q = by_end procedure e refl in
         works-same (back-works own map stack m cells l calling 0 at (λ z. calling.goes (drop at l) (sym q ∙ z))) q
 
-    pub step-returns : k ≡ 44 → (x : Answer) → Answers uint l x (operand (lends own m cells) uint 1024 a (drop at l))
+    pub step-returns : row_kind k ≡ returns → (x : Answer) → Answers uint l x (operand (lends own m cells) uint 1024 a (drop at l))
         → StepWorks own stack m cells l at (returned_of x)
-    unfolding row_kind
     step-returns e x p =
-        let q = by_kind (row_kind 44) (ap row_kind e) refl in
+        let q = by_kind returns e refl in
         works-same (returns-works own map stack m cells l calling a b c at x p (λ z. calling.goes (drop at l) (sym q ∙ z))) q
 
-    pub step-calls : k ≡ 45 → Within own m cells → (depth j : ℕ) → depth ≡ depth_of stack → j ≡ a → (x : Answer)
+    pub step-calls : row_kind k ≡ call → Within own m cells → (depth j : ℕ) → depth ≡ depth_of stack → j ≡ a → (x : Answer)
         → Answers uint l x (operand (lends own m cells) uint 1024 b (drop at l)) → StepWorks own stack m cells l at (called_of depth j x)
-    unfolding row_kind
     step-calls e fits depth j ed ej x p =
-        let q = by_kind (row_kind 45) (ap row_kind e) refl in
-        let kind = ap row_kind (sym (kind-read own m.row ek)) ∙ ap row_kind e in
+        let q = by_kind call e refl in
+        let kind = ap row_kind (sym (kind-read own m.row ek)) ∙ e in
         rw ej (works-same (calls-works own map stack m cells l calling kind fits depth a b c at ed ea x p (λ z. calling.goes (drop at l) (sym q ∙ z))) q)
 
   -- what rows 38 and 42 ask for

@@ -1,28 +1,25 @@
 -- What a call or a return of the row where a run stands asks for: from a table that passes and a record that 15 does not refuse.
 -- Assumes nothing.
 use mathlib.Core.Path.{◌≡◌, refl, sym, ap, ◌∙◌, subst}
-use Prim.Native.Nat.{ℕ, zero, suc, ◌+◌, ◌-◌, ◌*◌, ◌<◌, ◌≤◌}
+use Prim.Native.Nat.{ℕ, suc, ◌+◌, ◌-◌, ◌*◌, ◌<◌, ◌≤◌}
 use native.Mathlib.Omega.{arith as numbers}
 use mathlib.Core.Bool.{Bool, true, false, ◌||◌, true≢false}
-use mathlib.Core.List.{List, [], ◌∷◌}
+use mathlib.Core.List.{List, ◌∷◌}
 use lib.ListN.{get_or}
 use lib.Dec.{ltb}
 use borrow.Author.Tests.{ltb-true, ltb-false}
 use Rattle.lists.specs.Tab.{tab}
 use Rattle.lists.proofs.TabLaws.{tab-last}
-use Rattle.model.specs.Table.{Line, Table, Stretch, row_at, row_kind, type_at, marked_uint, home, opening, locals_at}
+use Rattle.model.specs.Table.{Line, Table, row_at, type_at, marked_uint, home, opening, locals_at}
 use Rattle.model.specs.Table.Ty.{uint}
-use Rattle.model.specs.Table.Row.{call}
-use Rattle.model.specs.Work.Out.{stuck}
 use Rattle.model.specs.State.{Caller}
-use Rattle.model.specs.Step.{finished, step}
+use Rattle.model.specs.Step.{finished}
 use Rattle.model.specs.Accepted.{Calls, Stacked, node_type}
 use Rattle.model.proofs.Typing.{RowFits, rows_fit, classed-none}
 use Rattle.prepared.specs.declared.Frame.{Frame}
-use Rattle.prepared.specs.declared.Form.{Form}
 use Rattle.prepared.specs.declared.Form.TheVariants.{Uint as FUint}
 use Rattle.prepared.specs.View.{places, kind_of, table_for, form_for, form_in}
-use Rattle.prepared.specs.Own.{Own, decls_of, rows_of, own_table, own_form}
+use Rattle.prepared.specs.Own.{Own, decls_of, own_table, own_form}
 use Rattle.prepared.specs.Same.{Same}
 use Rattle.prepared.proofs.SameLaws.{own_same, own-limits, same-form}
 use Rattle.procedures.specs.Map.{Mapped}
@@ -32,8 +29,7 @@ use Rattle.machine.specs.declared.Machine.{Machine}
 use Rattle.machine.specs.View.{state_of, own_state}
 use Rattle.machine.specs.CodeMoves.{CallsFit}
 use Rattle.row_kinds.proofs.CallingLaws.{depth-length}
-use Rattle.records.specs.RecordPromises.{CanBe}
-use Rattle.records.proofs.ProcedureLaws.{LocalsRight, few-procedures, locals-right}
+use Rattle.records.proofs.ProcedureLaws.{few-procedures, locals-right}
 use Rattle.runs.specs.CodeSteps.{Ready, kept}
 use Rattle.runs.proofs.RunLaws.{never}
 use Rattle.model.proofs.MainEndLaws.{goes-in-main, goes-with-callers, done-there}

@@ -11,14 +11,13 @@ use borrow.Author.Tests.{lt-leb}
 use Rattle.machine.specs.declared.Machine.{Machine}
 use Rattle.prepared.specs.declared.Frame.{Frame}
 use Rattle.prepared.specs.declared.Form.{Form}
-use Rattle.prepared.specs.declared.Form.TheVariants as Form
 use Rattle.std.specs.Prelude.{if◌then◌else◌}
 use Rattle.lists.proofs.TabLaws.{at-tab, length-tab}
-use Rattle.model.specs.Table.{Nest, Table, Ty, count, nest_at, nested, open_at, type_at}
+use Rattle.model.specs.Table.{Nest, Table, Ty, nest_at, nested, open_at, type_at}
 use Rattle.model.specs.Table.Ty.{bool, uint, pointer}
 use Rattle.model.specs.Table.Nest.{opens, closes, neither}
 use Rattle.model.specs.State.{Loop, MachineKind, classed, form_of}
-use Rattle.model.specs.State.Value.{Truth, Uint, Class, Pointer}
+use Rattle.model.specs.State.Value.{Truth, Uint}
 use Rattle.model.specs.Accepted.{CanHave, Holds, Regular}
 use Rattle.model.proofs.ReducedAccepted.{R}
 use Rattle.prepared.specs.View.{bool_or, by_form, kind_of, form_for, form_in, table_for, vars_of, vars_by, array_in, arrays_of}
@@ -76,7 +75,8 @@ module _ (t : List ℕ) (f : Frame) (m : Machine) (stack cells ps : List ℕ) (k
   arrays-most R = omega (numbers, R.few, length-tab m.count (array_in m.firsts m.lengths m.shapes))
 
   -- a bool's slot holds 0 or 1
-  var-is : (i : ℕ) → i < f.counts.decls → get_or (vars_of t f m.numbers m.bases) i (Uint 0) ≡ by_form (form_in t f i) (get_or m.numbers i 0) (get_or m.bases i 0)
+  var-is : (i : ℕ) → i < f.counts.decls
+      → get_or (vars_of t f m.numbers m.bases) i (Uint 0) ≡ by_form (form_in t f i) (get_or m.numbers i 0) (get_or m.bases i 0)
   unfolding vars_by
   var-is i h = at-tab f.counts.decls (λ i. by_form (form_in t f i) (get_or m.numbers i 0) (get_or m.bases i 0)) (Uint 0) i h
 
@@ -87,7 +87,8 @@ module _ (t : List ℕ) (f : Frame) (m : Machine) (stack cells ps : List ℕ) (k
       (subst (λ (k : MachineKind). Holds (classed k (table_for t f) i) (length (state_of t f (kept m stack) cells).arrays) (type_at (table_for t f) i)
       (get_or (vars_of t f m.numbers m.bases) i (Uint 0))) q (C.variable i h))
     where
-      go : (b : Bool) → classed (kind_of f) (table_for t f) i ≡ b → (w : Ty) → type_at (table_for t f) i ≡ w → (if b then Form.Class else form_for w) ≡ Form.Bool
+      go : (b : Bool) → classed (kind_of f) (table_for t f) i ≡ b → (w : Ty) → type_at (table_for t f) i ≡ w
+          → (if b then Form.Class else form_for w) ≡ Form.Bool
           → Holds (classed (kind_of f) (table_for t f) i) (length (state_of t f (kept m stack) cells).arrays) (type_at (table_for t f) i)
           (get_or (vars_of t f m.numbers m.bases) i (Uint 0)) → get_or m.numbers i 0 ≤ 1
       go true u w v z g = absurd (omega (numbers, ap form_code z))

@@ -25,9 +25,8 @@ use Rattle.prepared.specs.Same.{Same}
 use Rattle.prepared.proofs.SameLaws.{own_same, own-limits, own-nest, same-form}
 use Rattle.calls.specs.Stack.{loops_of, caller_words, depth_of, part, caller_at, callers_of}
 use Rattle.evaluators.specs.CodeAnswers.{failed}
-use Rattle.evaluators.specs.declared.answers.Failure.TheVariants.{Fails, BadChoice, NoChoice, Stuck}
+use Rattle.machine.specs.declared.Failure.TheVariants.{Fails, BadChoice, NoChoice, Stuck}
 use Rattle.machine.specs.declared.Machine.{Machine}
-use Rattle.machine.specs.declared.Record.{Record}
 use Rattle.machine.specs.declared.Move.{Move}
 use Rattle.machine.specs.declared.End.TheVariants as Code
 use Rattle.machine.specs.declared.Worked.{Worked}
@@ -127,7 +126,8 @@ module _ (t : List ℕ) (f : Frame) (own : List ℕ) (O : Own t f own) (m : Mach
       (fun_ext λ s'. fun_ext λ cs'. run-same k (suc n) s' cs'))
 
   pub whole_same : (limit : ℕ) (l : List ℕ)
-      → run (places_of own) (own_table own) limit 0 (own_state own stack m cells) l ≡ run (places f) (table_for t f) limit 0 (state_of t f (kept m stack) cells) l
+      → run (places_of own) (own_table own) limit 0 (own_state own stack m cells) l ≡ run (places f) (table_for t f) limit 0
+      (state_of t f (kept m stack) cells) l
   whole_same limit l =
       ap (λ (ps : List ℕ). run ps (own_table own) limit 0 (own_state own stack m cells) l) same.places
       ∙ ap (λ (s : State). run (places f) (own_table own) limit 0 s l) (state-same m stack cells)
@@ -235,7 +235,8 @@ module _ (t own l : List ℕ) (limit : ℕ) where
         unfolding move_out failed
         left-stop h r q = ap handed q ∙ go w h (sym S.said)
           where
-            go : (w : Worked) → ((x : Move) (nx : ℕ) → w ≡ Moves x nx → ⊥) → step (places_of own) (own_table own) here (drop at l) ≡ move_out own stack m cells l w
+            go : (w : Worked) → ((x : Move) (nx : ℕ) → w ≡ Moves x nx → ⊥)
+                → step (places_of own) (own_table own) here (drop at l) ≡ move_out own stack m cells l w
                 → handed (stopped_of w steps at m stack) ≡ all-of-it
             go (Moves x nx) h e = absurd (h x nx refl)
             go (Ends end nx) h e = by-step e

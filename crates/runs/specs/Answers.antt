@@ -1,15 +1,16 @@
 -- What a run says to the user.
-use Rattle.std.specs.Prelude.{ℕ, List, length}
+use Rattle.std.specs.Prelude.{ℕ, List, length, Result, Ok, Err}
 use Rattle.runs.specs.Ends.{report_of}
-use Rattle.table.specs.declared.Verdict.{Verdict}
-use Rattle.table.specs.declared.Verdict.TheVariants.{Passes, Refused}
+use Rattle.table.specs.declared.verdict.Refusal.{Refusal}
+use Rattle.table.specs.Verdict.{Verdict, check_number}
+use Rattle.table.specs.Verdict.Verdict.{Passes, Refused}
 use Rattle.table.specs.Checks.{and_then}
 use Rattle.model.specs.Table.{table_of}
 use Rattle.model.specs.State.{MachineKind, State, fresh}
 use Rattle.model.specs.Step.{Report, run}
 use Rattle.model.specs.Demand3.{choices_used}
 use Rattle.prepared.specs.declared.Frame.{Frame}
-use Rattle.runs.specs.declared.Answered.{Answered}
+use Rattle.runs.specs.declared.Ran.{Ran}
 use Rattle.runs.specs.Checks.{run_checks, record_check}
 
 -- a refusal, with its number and place and the cells at exit; or a run's report, which has end, steps, the record and the cells at exit,
@@ -24,8 +25,9 @@ said_by Passes cells said = said
 said_by (Refused number place) cells said = refusal number place cells
 
 -- an answer, with the cells at exit and the list of choices l
-abbrev pub said_of : List ℕ → Frame → List ℕ → Answered → List ℕ → Said
-said_of t f l a cells = said_by a.verdict cells (reports (report_of t f l a.ran cells) a.ran.used)
+abbrev pub said_of : List ℕ → Frame → List ℕ → Result Ran Refusal → List ℕ → Said
+said_of t f l (Ok ran) cells = reports (report_of t f l ran cells) ran.used
+said_of t f l (Err refused) cells = refusal (check_number refused.check) refused.place cells
 
 -- what a run of the model says: its report and the choices used
 abbrev pub ran_said : List ℕ → Report → Said

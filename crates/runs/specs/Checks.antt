@@ -1,7 +1,7 @@
 -- What a run checks of what it is lent, and the frame of a table.
 use Rattle.std.specs.Prelude.{ℕ, Bool, List}
-use Rattle.table.specs.declared.Verdict.{Verdict}
-use Rattle.table.specs.declared.Verdict.TheVariants.{Passes, Refused}
+use Rattle.table.specs.Verdict.{Verdict}
+use Rattle.table.specs.Verdict.Verdict.{Passes, Refused}
 use Rattle.table.specs.Checks.{table_check, and_then, size_check}
 use Rattle.std.specs.Prelude.{if◌then◌else◌}
 use Rattle.model.specs.Table.{Table, count, is_declaration, is_node, is_row}

@@ -12,12 +12,12 @@ use Rattle.machine.specs.declared.End.{End}
 use Rattle.machine.specs.declared.End.TheVariants as Code
 use Rattle.machine.specs.declared.Worked.{Worked}
 use Rattle.machine.specs.declared.Worked.TheVariants.{Moves, Ends, Not}
-use Rattle.evaluators.specs.declared.answers.Failure.{Failure}
-use Rattle.evaluators.specs.declared.answers.Failure.TheVariants.{Fails, BadChoice, NoChoice, Stuck}
+use Rattle.machine.specs.declared.Failure.{Failure}
+use Rattle.machine.specs.declared.Failure.TheVariants.{Fails, BadChoice, NoChoice, Stuck}
 use Rattle.runs.specs.declared.Ran.{Ran}
 use Rattle.prepared.specs.View.{places, kind_of, table_for}
 use Rattle.machine.specs.View.{state_of}
-use Rattle.table.specs.declared.Verdict.TheVariants.{Passes}
+use Rattle.table.specs.Verdict.Verdict.{Passes}
 use Rattle.model.specs.Table.{table_of}
 use Rattle.runs.specs.Checks.{run_checks}
 use Rattle.runs.specs.Ends.{report_of}

@@ -1,6 +1,6 @@
 -- What is proved of the runs: proofs/RunPromises.
 use Rattle.std.specs.Prelude.{◌≡◌, ◌≢◌, ℕ, true, List, length}
-use Rattle.table.specs.declared.Verdict.TheVariants.{Passes}
+use Rattle.table.specs.Verdict.Verdict.{Passes}
 use Rattle.table.specs.Checks.{table_check}
 use Rattle.model.specs.Class.{accepted_places}
 use Rattle.model.specs.Table.{Table, table_of}

@@ -1,17 +1,17 @@
-// What every run checks of what it is lent: the table, the places, the size of the cells. And the frame of a table, and a refusal.
+// What every run checks of what it is lent: the table, the places, the size of the cells. And the frame of a table.
 ghost use Rattle.std.specs.Prelude.{◌≡◌, length};
+ghost use Rattle.table.specs.Verdict.{verdict_of};
 ghost use Rattle.table.specs.Checks.{size_check};
 ghost use Rattle.kinds.specs.Kinds.{machine_of};
 ghost use Rattle.model.specs.Class.{pair};
 ghost use Rattle.model.specs.State.{cell_count, places_in};
 ghost use Rattle.runs.specs.Checks.{frame_of, places_for, run_checks};
 
-use crate::{Answered, Ran};
-use machine::{End, Machine, Record};
+use machine::Machine;
 use prepared::Frame;
 use reduction::check_pair;
 use table::sorts::counts_of;
-use table::{Verdict, check_table};
+use table::{Check, Refusal, check_table};
 
 // The frame of a table, for the machine with these places.
 pub fn frame_of(t: &[u32], classes: bool, c1: u32, c2: u32) -> Frame
@@ -27,13 +27,13 @@ pub fn frame_of(t: &[u32], classes: bool, c1: u32, c2: u32) -> Frame
 }
 
 // 13, of the reduced machine.
-fn places_for(classes: bool, c1: u32, c2: u32) -> Verdict
-    ensures { result ≡ places_for (machine_of classes) (places_in (machine_of classes) (pair c1 c2)) }
+fn places_for(classes: bool, c1: u32, c2: u32) -> Result<(), Refusal>
+    ensures { verdict_of result ≡ places_for (machine_of classes) (places_in (machine_of classes) (pair c1 c2)) }
 {
     if classes {
         return check_pair(c1, c2);
     }
-    Verdict::Passes
+    Ok(())
 }
 
 // How many cells a machine has.
@@ -47,40 +47,20 @@ fn cells_of(classes: bool) -> usize
 }
 
 // 14, of so many cells.
-pub fn check_size(size: usize, stated: usize) -> Verdict
-    ensures { result ≡ size_check size stated }
+pub fn check_size(size: usize, stated: usize) -> Result<(), Refusal>
+    ensures { verdict_of result ≡ size_check size stated }
 {
     if size == stated {
-        return Verdict::Passes;
+        return Ok(());
     }
-    Verdict::Refused(14, 0)
+    Err(Refusal::of_whole(Check::BufferSize))
 }
 
 // The table's checks, 13 and 14, in that order.
-pub fn check_run(t: &[u32], cells: &[u32], classes: bool, c1: u32, c2: u32) -> Verdict
-    ensures { result ≡ run_checks (machine_of classes) (places_in (machine_of classes) (pair c1 c2)) t.now (length cells.now) }
+pub fn check_run(t: &[u32], cells: &[u32], classes: bool, c1: u32, c2: u32) -> Result<(), Refusal>
+    ensures { verdict_of result ≡ run_checks (machine_of classes) (places_in (machine_of classes) (pair c1 c2)) t.now (length cells.now) }
 {
-    let table = check_table(t, classes);
-    let Verdict::Passes = table else {
-        return table;
-    };
-    let pair = places_for(classes, c1, c2);
-    let Verdict::Passes = pair else {
-        return pair;
-    };
+    check_table(t, classes)?;
+    places_for(classes, c1, c2)?;
     check_size(cells.len(), cells_of(classes))
-}
-
-// A refusal. Public for the choice writer.
-pub fn refused(verdict: Verdict) -> Answered
-    ensures { result.verdict ≡ verdict }
-{
-    let record = Record::blank();
-    let ran = Ran {
-        end: End::Done,
-        steps: 0,
-        used: 0,
-        record,
-    };
-    Answered { verdict, ran }
 }

@@ -7,12 +7,12 @@ ghost use Rattle.machine.specs.View.{state_of};
 ghost use Rattle.runs.specs.Checks.{frame_of};
 ghost use Rattle.runs.specs.Answers.{said_of, continued_said};
 
-use crate::Answered;
-use crate::checks::{check_run, frame_of, refused};
+use crate::Ran;
+use crate::checks::{check_run, frame_of};
 use crate::steps::run_from;
 use machine::Record;
 use record_check::record_fits;
-use table::Verdict;
+use table::{Check, Refusal};
 
 // A run of either machine from a record on: 15 is checked after the others.
 pub fn continued_run(
@@ -24,21 +24,14 @@ pub fn continued_run(
     c1: u32,
     c2: u32,
     limit: u32,
-) -> Answered
+) -> Result<Ran, Refusal>
     ensures { said_of t.now (frame_of t.now classes c1 c2) list.now result cells.new ≡ continued_said
         (machine_of classes) (places_in (machine_of classes) (pair c1 c2)) t.now (state_of t.now (frame_of t.now classes c1 c2) r cells.old) list.now limit }
 {
-    let v = check_run(t, cells, classes, c1, c2);
-    let Verdict::Passes = v else {
-        return refused(v);
-    };
+    check_run(t, cells, classes, c1, c2)?;
     let f = frame_of(t, classes, c1, c2);
     if record_fits(t, cells, f, r) {
-        let ran = run_from(r, t, cells, list, f, limit);
-        return Answered {
-            verdict: Verdict::Passes,
-            ran,
-        };
+        return Ok(run_from(r, t, cells, list, f, limit));
     }
-    refused(Verdict::Refused(15, 0))
+    Err(Refusal::of_whole(Check::Record))
 }

@@ -10,13 +10,13 @@ ghost use Rattle.runs.specs.CodeSteps.{Reports, Lends};
 ghost use Rattle.runs.specs.Checks.{frame_of};
 ghost use Rattle.runs.specs.Answers.{said_of, fresh_said};
 
-use crate::checks::{check_run, frame_of, refused};
+use crate::Ran;
+use crate::checks::{check_run, frame_of};
 use crate::steps::run_from;
-use crate::{Answered, Ran};
 use machine::Record;
 use machine::steps::zero_all;
 use prepared::Frame;
-use table::Verdict;
+use table::Refusal;
 
 // A fresh run of a table that passes, in cells of the stated size.
 fn start(t: &[u32], cells: &mut [u32], list: &[u32], f: Frame, limit: u32) -> Ran
@@ -38,18 +38,11 @@ pub fn fresh_run(
     c1: u32,
     c2: u32,
     limit: u32,
-) -> Answered
+) -> Result<Ran, Refusal>
     ensures { said_of t.now (frame_of t.now classes c1 c2) list.now result cells.new ≡ fresh_said
         (machine_of classes) (places_in (machine_of classes) (pair c1 c2)) t.now cells.old list.now limit }
 {
-    let v = check_run(t, cells, classes, c1, c2);
-    let Verdict::Passes = v else {
-        return refused(v);
-    };
+    check_run(t, cells, classes, c1, c2)?;
     let f = frame_of(t, classes, c1, c2);
-    let ran = start(t, cells, list, f, limit);
-    Answered {
-        verdict: Verdict::Passes,
-        ran,
-    }
+    Ok(start(t, cells, list, f, limit))
 }

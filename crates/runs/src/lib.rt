@@ -16,7 +16,7 @@ ghost use Rattle.runs.specs.Answers.{said_of, fresh_said, continued_said};
 use continued::continued_run;
 use fresh::fresh_run;
 use machine::{End, Record};
-use table::Verdict;
+use table::Refusal;
 
 // What a run hands back, beside the cells: its end, the steps, the choices used, and the record, whose row is where the run stands. Of the
 // choice writer the same, with the numbers written for the choices used.
@@ -28,15 +28,8 @@ pub struct Ran {
     pub record: Record,
 }
 
-// The answer of a run or of the choice writer: whether it was refused; what the run came to is no part of a refusal.
-#[derive(Clone, Copy)]
-pub struct Answered {
-    pub verdict: Verdict,
-    pub ran: Ran,
-}
-
 // A fresh run of the plain machine on a table, in lent cells, with a limit of steps.
-pub fn run_plain(t: &[u32], cells: &mut [u32], limit: u32) -> Answered
+pub fn run_plain(t: &[u32], cells: &mut [u32], limit: u32) -> Result<Ran, Refusal>
     ensures { said_of t.now (frame_of t.now false 0 0) [] result cells.new ≡ fresh_said plain [] t.now
         cells.old [] limit }
 {
@@ -44,7 +37,7 @@ pub fn run_plain(t: &[u32], cells: &mut [u32], limit: u32) -> Answered
 }
 
 // A run of the plain machine from a record on.
-pub fn continue_plain(r: Record, t: &[u32], cells: &mut [u32], limit: u32) -> Answered
+pub fn continue_plain(r: Record, t: &[u32], cells: &mut [u32], limit: u32) -> Result<Ran, Refusal>
     ensures { said_of t.now (frame_of t.now false 0 0) [] result cells.new ≡ continued_said plain [] t.now
         (state_of t.now (frame_of t.now false 0 0) r cells.old) [] limit }
 {
@@ -59,7 +52,7 @@ pub fn run_reduced(
     cells: &mut [u32],
     list: &[u32],
     limit: u32,
-) -> Answered
+) -> Result<Ran, Refusal>
     ensures { said_of t.now (frame_of t.now true c1 c2) list.now result cells.new ≡ fresh_said reduced
         (pair c1 c2) t.now cells.old list.now limit }
 {
@@ -75,7 +68,7 @@ pub fn continue_reduced(
     cells: &mut [u32],
     list: &[u32],
     limit: u32,
-) -> Answered
+) -> Result<Ran, Refusal>
     ensures { said_of t.now (frame_of t.now true c1 c2) list.now result cells.new ≡ continued_said reduced
         (pair c1 c2) t.now (state_of t.now (frame_of t.now true c1 c2) r cells.old) list.now limit }
 {

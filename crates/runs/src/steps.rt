@@ -8,21 +8,24 @@ ghost use Rattle.runs.specs.CodeSteps.{Ready, kept, ran, failed_of, stopped_of, 
 use crate::Ran;
 use calls::{DEPTH, map_own};
 use evaluators::answers::Failure;
+use evaluators::inputs::Inputs;
 use machine::{End, Machine, Record, Worked};
 use prepared::Frame;
 use prepared::own::lay_out;
 use row_moves::move_of;
 
-// An end after so many steps, with the next choice at a place.
-fn ran_to(end: End, steps: u32, at: usize, machine: Machine, stack: [u32; 241]) -> Ran
-    ensures { result ≡ ran end steps at machine stack }
-{
-    let record = Record { machine, stack };
-    Ran {
-        end,
-        steps,
-        used: at as u64,
-        record,
+impl Ran {
+    // An end after so many steps, with so many choices used or numbers written. Public for the choice writer.
+    pub fn at_end(end: End, steps: u32, used: usize, machine: Machine, stack: [u32; 241]) -> Ran
+        ensures { result ≡ ran end steps used machine stack }
+    {
+        let record = Record { machine, stack };
+        Ran {
+            end,
+            steps,
+            used: used as u64,
+            record,
+        }
     }
 }
 
@@ -39,10 +42,10 @@ fn failed(
     ensures { result ≡ failed_of why next steps at machine stack }
 {
     match why {
-        Failure::Fails(reason) => ran_to(End::Fail(reason), steps + 1, next, machine, stack),
-        Failure::BadChoice => ran_to(End::ChoiceNotAllowed, steps, at, machine, stack),
-        Failure::NoChoice => ran_to(End::NoChoiceLeft, steps, at, machine, stack),
-        Failure::Stuck => ran_to(End::OutOfSteps, steps, at, machine, stack),
+        Failure::Fails(reason) => Ran::at_end(End::Fail(reason), steps + 1, next, machine, stack),
+        Failure::BadChoice => Ran::at_end(End::ChoiceNotAllowed, steps, at, machine, stack),
+        Failure::NoChoice => Ran::at_end(End::NoChoiceLeft, steps, at, machine, stack),
+        Failure::Stuck => Ran::at_end(End::OutOfSteps, steps, at, machine, stack),
     }
 }
 
@@ -52,9 +55,9 @@ fn stopped(w: Worked, steps: u32, at: usize, machine: Machine, stack: [u32; 241]
     ensures { result ≡ stopped_of w steps at machine stack }
 {
     match w {
-        Worked::Ends(end, next) => ran_to(end, steps + 1, next, machine, stack),
+        Worked::Ends(end, next) => Ran::at_end(end, steps + 1, next, machine, stack),
         Worked::Not(why, next) => failed(why, next, steps, at, machine, stack),
-        Worked::Moves(_, _) => ran_to(End::OutOfSteps, steps, at, machine, stack),
+        Worked::Moves(_, _) => Ran::at_end(End::OutOfSteps, steps, at, machine, stack),
     }
 }
 
@@ -81,26 +84,15 @@ fn run_steps(
     let mut steps: u32 = 0;
     while (m.row < end) | (0 < stack[DEPTH]) {
         if steps == limit {
-            return ran_to(End::OutOfSteps, steps, at, m, stack);
+            return Ran::at_end(End::OutOfSteps, steps, at, m, stack);
         }
-        let w = move_of(
-            at,
-            &own,
+        let inputs = Inputs {
+            own: &own,
             cells,
             list,
-            m.row,
-            &m.numbers,
-            &m.bases,
-            m.open,
-            &m.loop_rows,
-            &m.starts,
-            &m.ends,
-            m.count,
-            &m.firsts,
-            &m.lengths,
-            &m.shapes,
-            stack[DEPTH],
-        );
+            machine: &m,
+        };
+        let w = move_of(at, &inputs, stack[DEPTH]);
         let Worked::Moves(change, next) = w else {
             return stopped(w, steps, at, m, stack);
         };
@@ -108,7 +100,7 @@ fn run_steps(
         at = next;
         steps = steps + 1;
     }
-    ran_to(End::Done, steps, at, m, stack)
+    Ran::at_end(End::Done, steps, at, m, stack)
 }
 
 // How many numbers of a list stand before a place: all of them, for a place past its end.

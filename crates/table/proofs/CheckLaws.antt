@@ -7,8 +7,8 @@ use mathlib.Core.Bool.{Bool, false, not}
 use mathlib.Core.List.{List, [], ◌∷◌, ◌++◌}
 use lib.ListN.{length}
 use borrow.Author.Tests.{eq-eqb, not-false}
-use Rattle.lists.specs.declared.Found.{Found}
-use Rattle.lists.specs.declared.Found.TheVariants.{At, Nothing}
+use Rattle.std.specs.Prelude.{Option}
+use Rattle.std.specs.Prelude.{Some, None}
 use Rattle.lists.specs.First.{first}
 use Rattle.lists.proofs.FirstLaws.{first-nowhere-at}
 use Rattle.model.specs.Table.{Table, table_of}
@@ -19,34 +19,36 @@ use Rattle.kinds.specs.Kinds.{machine_of}
 use Rattle.kinds.specs.Code.{table_by, InSorts, There}
 use Rattle.kinds.proofs.LineLaws.{at-node, at_row, no-row}
 use Rattle.procedures.specs.Misplaced.{breaks17}
-use Rattle.table.specs.declared.Verdict.TheVariants.{Passes, Refused}
+use Rattle.table.specs.Verdict.{Verdict, refused_as}
+use Rattle.table.specs.Verdict.Verdict.{Passes, Refused}
+use Rattle.table.specs.declared.verdict.Refusal.{Refusal}
 use Rattle.line_checks.specs.Rules.{breaks8, breaks10}
 use Rattle.loop_checks.specs.Rules.{breaks11, breaks16}
-use Rattle.table.specs.Checks.{breaks, first_refusal, table_check}
+use Rattle.table.specs.Checks.{breaks, refused_at_line, first_refusal, table_check}
 use Rattle.loop_checks.specs.Code.{WellNested}
 use Rattle.table.specs.Code.{counts_of, first_of}
 use Rattle.table.proofs.Sizes.{all_lines, declaration-at, node_at, row_at, sizes}
 
-module _ (f : ℕ → Found) where
+module _ (f : ℕ → Option ℕ) where
   pub none : first_refusal f [] ≡ Passes
   unfolding first_refusal
   none = refl
 
-  pub pass : (k : ℕ) (ks : List ℕ) → f k ≡ Nothing → first_refusal f (k ∷ ks) ≡ first_refusal f ks
+  pub pass : (k : ℕ) (ks : List ℕ) → f k ≡ None → first_refusal f (k ∷ ks) ≡ first_refusal f ks
   unfolding first_refusal
   pass k ks e = rw e
 
-  pub stop : (k : ℕ) (ks : List ℕ) (i : ℕ) → f k ≡ At i → first_refusal f (k ∷ ks) ≡ Refused k i
+  pub stop : (k : ℕ) (ks : List ℕ) (i : ℕ) → f k ≡ Some i → first_refusal f (k ∷ ks) ≡ Refused k i
   unfolding first_refusal
   stop k ks i e = rw e
 
   -- checks that refuse nothing, one by one
-  pub passed : (k : ℕ) (ks : List ℕ) → first_refusal f (k ∷ ks) ≡ Passes → (f k ≡ Nothing) × (first_refusal f ks ≡ Passes)
+  pub passed : (k : ℕ) (ks : List ℕ) → first_refusal f (k ∷ ks) ≡ Passes → (f k ≡ None) × (first_refusal f ks ≡ Passes)
   passed k ks e = go (f k) refl
     where
-      go : (r : Found) → f k ≡ r → (f k ≡ Nothing) × (first_refusal f ks ≡ Passes)
-      go (At i) q = absurd (let z : ◌≡◌ {A = ℕ} 0 1 = cc (stop k ks i q) in omega arith)
-      go Nothing q = (q, sym (pass k ks q) ∙ e)
+      go : (r : Option ℕ) → f k ≡ r → (f k ≡ None) × (first_refusal f ks ≡ Passes)
+      go (Some i) q = absurd (let z : ◌≡◌ {A = ℕ} 0 1 = cc (stop k ks i q) in omega arith)
+      go None q = (q, sym (pass k ks q) ∙ e)
 
   -- more checks after them
   pub then-more : (xs ys : List ℕ) → first_refusal f xs ≡ Passes → first_refusal f (xs ++ ys) ≡ first_refusal f ys
@@ -58,9 +60,37 @@ module _ (f : ℕ → Found) where
   no_more [] ys k i e = absurd (let z : ◌≡◌ {A = ℕ} 0 1 = cc none in omega arith)
   no_more (x ∷ xs) ys k i e = go (f x) refl (λ h. no_more xs ys k i h)
     where
-      go : (r : Found) → f x ≡ r → (first_refusal f xs ≡ Refused k i → first_refusal f (xs ++ ys) ≡ Refused k i) → first_refusal f (x ∷ (xs ++ ys)) ≡ Refused k i
-      go (At j) q more = stop x (xs ++ ys) j q ∙ sym (stop x xs j q) ∙ e
-      go Nothing q more = pass x (xs ++ ys) q ∙ more (sym (pass x xs q) ∙ e)
+      go : (r : Option ℕ) → f x ≡ r → (first_refusal f xs ≡ Refused k i → first_refusal f (xs ++ ys) ≡ Refused k i)
+          → first_refusal f (x ∷ (xs ++ ys)) ≡ Refused k i
+      go (Some j) q more = stop x (xs ++ ys) j q ∙ sym (stop x xs j q) ∙ e
+      go None q more = pass x (xs ++ ys) q ∙ more (sym (pass x xs q) ∙ e)
+
+  -- one check after another, by what the code's answer says of each
+  pub stops : (k : ℕ) (ks : List ℕ) (e : Refusal) → refused_as e ≡ refused_at_line (f k) k Passes → refused_as e ≡ first_refusal f (k ∷ ks)
+  unfolding first_refusal
+  stops k ks e h = go (f k) h
+    where
+      go : (x : Option ℕ) → refused_as e ≡ refused_at_line x k Passes → refused_as e ≡ refused_at_line x k (first_refusal f ks)
+      go (Some i) q = q
+      go None q = absurd (let z : ◌≡◌ {A = ℕ} 0 1 = cc in omega arith)
+
+  pub clean : (k : ℕ) → Passes ≡ refused_at_line (f k) k Passes → f k ≡ None
+  clean k h = go (f k) h
+    where
+      go : (x : Option ℕ) → Passes ≡ refused_at_line x k Passes → x ≡ None
+      go (Some i) q = absurd (let z : ◌≡◌ {A = ℕ} 0 1 = cc in omega arith)
+      go None q = refl
+
+  pub goes : (k : ℕ) (ks : List ℕ) → Passes ≡ refused_at_line (f k) k Passes → first_refusal f ks ≡ first_refusal f (k ∷ ks)
+  goes k ks h = sym (pass k ks (clean k h))
+
+  pub last : (k : ℕ) (v : Verdict) → v ≡ refused_at_line (f k) k Passes → v ≡ first_refusal f (k ∷ [])
+  unfolding first_refusal
+  last k v h = h
+
+-- what is said of the line that was found, said of the check's first line
+pub at_line : {x y z : Option ℕ} {v : Verdict} (k : ℕ) → x ≡ y → z ≡ y → v ≡ refused_at_line x k Passes → v ≡ refused_at_line z k Passes
+at_line k p q h = h ∙ ap (λ o. refused_at_line o k Passes) (p ∙ sym q)
 
 -- 10, 11, 16 and 17 are the same of plain and reduced tables
 pub ten : (r : Bool) (w : List ℕ) (c : Counts) → first_of 10 r w c ≡ first (breaks10 (table_by w c)) 0 (length w / 4)
@@ -81,8 +111,8 @@ seventeen r w c = refl
 
 -- ---- what 4, 5 and 6 leave
 
-pub laid : (m : MachineKind) (w : List ℕ) → length w % 4 ≡ 0 → first (breaks 5 m (table_of w)) 0 (length w / 4) ≡ Nothing
-    → first (breaks 6 m (table_of w)) 0 (length w / 4) ≡ Nothing → InSorts (table_of w)
+pub laid : (m : MachineKind) (w : List ℕ) → length w % 4 ≡ 0 → first (breaks 5 m (table_of w)) 0 (length w / 4) ≡ None
+    → first (breaks 6 m (table_of w)) 0 (length w / 4) ≡ None → InSorts (table_of w)
 unfolding table_of
 laid m w e n5 n6 =
     let few = sizes m w e n5 n6 in
@@ -97,15 +127,15 @@ laid m w e n5 n6 =
       row = λ i l h. row_at m w n5 i (omega (arith, whole)) l;
     }
 
-pub laid_of : (r : Bool) (w : List ℕ) (c : Counts) → length w % 4 ≡ 0 → c ≡ counts_of w → first_of 5 r w c ≡ Nothing → first_of 6 r w c ≡ Nothing
+pub laid_of : (r : Bool) (w : List ℕ) (c : Counts) → length w % 4 ≡ 0 → c ≡ counts_of w → first_of 5 r w c ≡ None → first_of 6 r w c ≡ None
     → InSorts (table_by w c)
 unfolding table_of
 laid_of r w c e q =
-    subst (λ c. first_of 5 r w c ≡ Nothing → first_of 6 r w c ≡ Nothing → InSorts (table_by w c)) (sym q) (laid (machine_of r) w e)
+    subst (λ c. first_of 5 r w c ≡ None → first_of 6 r w c ≡ None → InSorts (table_by w c)) (sym q) (laid (machine_of r) w e)
 
 -- ---- what 8 leaves
 
-pub there-of : (r : Bool) (w : List ℕ) (c : Counts) → InSorts (table_by w c) → first_of 8 r w c ≡ Nothing → There (table_by w c)
+pub there-of : (r : Bool) (w : List ℕ) (c : Counts) → InSorts (table_by w c) → first_of 8 r w c ≡ None → There (table_by w c)
 unfolding breaks breaks8
 there-of r w c la n8 = record {
   nodes = λ n l.
@@ -134,7 +164,7 @@ there-of r w c la n8 = record {
 
 -- ---- what 11 leaves
 
-pub nested-of : (w : List ℕ) (c : Counts) → InSorts (table_by w c) → first (breaks11 (table_by w c)) 0 (length w / 4) ≡ Nothing → WellNested (table_by w c)
+pub nested-of : (w : List ℕ) (c : Counts) → InSorts (table_by w c) → first (breaks11 (table_by w c)) 0 (length w / 4) ≡ None → WellNested (table_by w c)
 unfolding breaks11
 nested-of w c la e = let t = table_by w c in record { rows = no-row (misnested t) t la e }
 

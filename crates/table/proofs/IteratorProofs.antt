@@ -10,8 +10,8 @@ use lib.Dec.{eqb}
 use borrow.Author.Tests.{eqb-true}
 use Rattle.std.specs.Prelude.{if◌then◌else◌}
 use Rattle.lists.specs.First.{first}
-use Rattle.lists.specs.declared.Found.{Found}
-use Rattle.lists.specs.declared.Found.TheVariants.{At, Nothing}
+use Rattle.std.specs.Prelude.{Option}
+use Rattle.std.specs.Prelude.{Some, None}
 use Rattle.model.specs.Table.{Table, table_of, open_at}
 use Rattle.model.specs.State.{MachineKind}
 use Rattle.model.proofs.Nested.{chain}
@@ -21,7 +21,7 @@ use Rattle.kinds.proofs.LineLaws.{no-row, rows_none}
 use Rattle.loop_checks.specs.Rules.{breaks16}
 use Rattle.loop_checks.specs.Sharing.{Shares, FirstShares}
 use Rattle.loop_checks.proofs.SharingLaws.{shared, shares-found, shares-holds, first-shares, chain-differs}
-use Rattle.table.specs.declared.Verdict.TheVariants.{Passes, Refused}
+use Rattle.table.specs.Verdict.Verdict.{Passes, Refused}
 use Rattle.table.specs.Checks.{breaks, first_refusal, refused_at_line, order, checked_by, table_check}
 use Rattle.table.specs.Iterators.{PassingSharesNone, SixteenAtInner, before16, SharingRefused, ApartPasses, OpenDiffer}
 use Rattle.table.proofs.CheckLaws.{laid, none as none_left, pass, passed, stop, then-more}
@@ -42,27 +42,27 @@ open-differ m w e r l =
 -- ---- what 16 says
 
 -- a refusal with a number is that of its check
-refused-by : (f : ℕ → Found) (ks : List ℕ) (k i : ℕ) → first_refusal f ks ≡ Refused k i → f k ≡ At i
+refused-by : (f : ℕ → Option ℕ) (ks : List ℕ) (k i : ℕ) → first_refusal f ks ≡ Refused k i → f k ≡ Some i
 unfolding first_refusal
 refused-by f [] k i e = absurd (let z : ◌≡◌ {A = ℕ} 0 1 = cc in omega arith)
 refused-by f (x ∷ xs) k i e = go (f x) refl e (refused-by f xs k i)
   where
-    go : (o : Found) → f x ≡ o → refused_at_line o x (first_refusal f xs) ≡ Refused k i → (first_refusal f xs ≡ Refused k i → f k ≡ At i) → f k ≡ At i
-    go (At j) q h later =
+    go : (o : Option ℕ) → f x ≡ o → refused_at_line o x (first_refusal f xs) ≡ Refused k i → (first_refusal f xs ≡ Refused k i → f k ≡ Some i) → f k ≡ Some i
+    go (Some j) q h later =
         let number : x ≡ k = cc in
         let place : j ≡ i = cc in
-        subst (λ (n : ℕ). f n ≡ At i) number (q ∙ ap At place)
-    go Nothing q h later = later h
+        subst (λ (n : ℕ). f n ≡ Some i) number (q ∙ ap Some place)
+    go None q h later = later h
 
 -- and the checks before it are passed
-passed_first : (f : ℕ → Found) (x : ℕ) (xs : List ℕ) (k i : ℕ) → (x ≡ k → ⊥) → first_refusal f (x ∷ xs) ≡ Refused k i
-    → (f x ≡ Nothing) × (first_refusal f xs ≡ Refused k i)
+passed_first : (f : ℕ → Option ℕ) (x : ℕ) (xs : List ℕ) (k i : ℕ) → (x ≡ k → ⊥) → first_refusal f (x ∷ xs) ≡ Refused k i
+    → (f x ≡ None) × (first_refusal f xs ≡ Refused k i)
 unfolding first_refusal
 passed_first f x xs k i other e = go (f x) refl e
   where
-    go : (o : Found) → f x ≡ o → refused_at_line o x (first_refusal f xs) ≡ Refused k i → (f x ≡ Nothing) × (first_refusal f xs ≡ Refused k i)
-    go (At j) q h = let number : x ≡ k = cc in absurd (other number)
-    go Nothing q h = (q, h)
+    go : (o : Option ℕ) → f x ≡ o → refused_at_line o x (first_refusal f xs) ≡ Refused k i → (f x ≡ None) × (first_refusal f xs ≡ Refused k i)
+    go (Some j) q h = let number : x ≡ k = cc in absurd (other number)
+    go None q h = (q, h)
 
 pub sixteen-at-inner : SixteenAtInner
 unfolding table_check breaks breaks16 table_of
@@ -71,7 +71,7 @@ sixteen-at-inner m w line e = go (eqb (length w % 4) 0) refl e
     t : Table
     t = table_of w
 
-    find : ℕ → Found
+    find : ℕ → Option ℕ
     find k = first (breaks k m t) 0 (length w / 4)
 
     go : (b : Bool) → eqb (length w % 4) 0 ≡ b → (if b then first_refusal find order else Refused 4 0) ≡ Refused 16 line → FirstShares t line
@@ -103,7 +103,7 @@ module _ (m : MachineKind) (w : List ℕ) (p : checked_by before16 m w ≡ Passe
   left : Left
   left = go (eqb (length w % 4) 0) refl p
     where
-      find : ℕ → Found
+      find : ℕ → Option ℕ
       find k = first (breaks k m table) 0 (length w / 4)
 
       go : (b : Bool) → eqb (length w % 4) 0 ≡ b → (if b then first_refusal find before16 else Refused 4 0) ≡ Passes → Left
@@ -120,12 +120,12 @@ pub sharing-refused : SharingRefused
 unfolding table_check breaks breaks16 table_of
 sharing-refused m w p o r l S = go (find 16) refl
   where
-    find : ℕ → Found
+    find : ℕ → Option ℕ
     find k = first (breaks k m (table_of w)) 0 (length w / 4)
 
-    go : (f : Found) → find 16 ≡ f → (line : ℕ) × (table_check m w ≡ Refused 16 line)
-    go (At line) e = (line, (left m w p).rest (16 ∷ 17 ∷ []) ∙ stop find 16 (17 ∷ []) line e)
-    go Nothing e =
+    go : (f : Option ℕ) → find 16 ≡ f → (line : ℕ) × (table_check m w ≡ Refused 16 line)
+    go (Some line) e = (line, (left m w p).rest (16 ∷ 17 ∷ []) ∙ stop find 16 (17 ∷ []) line e)
+    go None e =
         let none = no-row (shared (table_of w)) (table_of w) (left m w p).laid_out e r l in
         absurd (true≢false (sym (shares-holds (table_of w) o r (omega arith) S) ∙ none))
 

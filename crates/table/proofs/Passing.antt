@@ -8,8 +8,8 @@ use mathlib.Core.List.{List}
 use lib.ListN.{length}
 use lib.Dec.{ltb, eqb}
 use borrow.Author.Tests.{eqb-true, ltb-false}
-use Rattle.lists.specs.declared.Found.{Found}
-use Rattle.lists.specs.declared.Found.TheVariants.{Nothing}
+use Rattle.std.specs.Prelude.{Option}
+use Rattle.std.specs.Prelude.{None}
 use Rattle.std.specs.Prelude.{if◌then◌else◌}
 use Rattle.lists.specs.First.{first}
 use Rattle.lists.proofs.TabLaws.{all_true}
@@ -22,8 +22,8 @@ use Rattle.model.specs.Procedures.{keeps_procedures}
 use Rattle.model.specs.Accepted.{Accepted, known, misnested, most_open, node_suits_mark, node_there, node_typed, row_suits_mark, row_there, row_typed}
 use Rattle.kinds.specs.Kinds.{of_node_or_row}
 use Rattle.procedures.specs.Misplaced.{breaks17}
-use Rattle.table.specs.declared.Verdict.{Verdict}
-use Rattle.table.specs.declared.Verdict.TheVariants.{Passes, Refused}
+use Rattle.table.specs.Verdict.{Verdict}
+use Rattle.table.specs.Verdict.Verdict.{Passes, Refused}
 use Rattle.line_checks.specs.Rules.{breaks10, breaks12, breaks8, breaks9, depth, most_depth}
 use Rattle.loop_checks.specs.Rules.{breaks11, breaks16, shares_iterator}
 use Rattle.table.specs.Checks.{and_then, breaks, first_refusal, order, size_check, table_check}
@@ -45,7 +45,7 @@ size-passes size stated e = go (eqb size stated) refl e
 
 -- no line breaks the check of the number
 abbrev pub Unbroken : ℕ → MachineKind → List ℕ → Type 0
-Unbroken k m w = first (breaks k m (table_of w)) 0 (length w / 4) ≡ Nothing
+Unbroken k m w = first (breaks k m (table_of w)) 0 (length w / 4) ≡ None
 
 -- what passing says, number by number
 pub record Passing (m : MachineKind) (w : List ℕ) : Type 0 where
@@ -62,7 +62,7 @@ pub record Passing (m : MachineKind) (w : List ℕ) : Type 0 where
   pub none17 : Unbroken 17 m w
 
 module _ (m : MachineKind) (w : List ℕ) where
-  abbrev find : ℕ → Found
+  abbrev find : ℕ → Option ℕ
   find k = first (breaks k m (table_of w)) 0 (length w / 4)
 
   pub passing : table_check m w ≡ Passes → Passing m w

@@ -7,7 +7,7 @@ use mathlib.Core.Bool.{Bool, true, false, not, ◌&&◌}
 use mathlib.Core.List.{List}
 use lib.ListN.{length}
 use lib.Dec.{ltb, leb, eqb}
-use Rattle.lists.specs.declared.Found.TheVariants.{Nothing}
+use Rattle.std.specs.Prelude.{None}
 use Rattle.std.specs.Prelude.{if◌then◌else◌}
 use Rattle.lists.specs.First.{first}
 use Rattle.lists.specs.Falling.{value_at}
@@ -160,8 +160,8 @@ module _ (w : List ℕ) (P : Passing plain w) where
 
   unbroken-reduced : (k : ℕ) → ((i : ℕ) → i < line_count t → breaks k reduced u i ≡ false) → Unbroken k reduced (reduce w)
   unbroken-reduced k h =
-      subst (λ (q : Table). first (breaks k reduced q) 0 (length (reduce w) / 4) ≡ Nothing) (sym (table-reduce w))
-      (subst (λ (n : ℕ). first (breaks k reduced u) 0 (n / 4) ≡ Nothing) (sym (length-reduce w))
+      subst (λ (q : Table). first (breaks k reduced q) 0 (length (reduce w) / 4) ≡ None) (sym (table-reduce w))
+      (subst (λ (n : ℕ). first (breaks k reduced u) 0 (n / 4) ≡ None) (sym (length-reduce w))
       (first-nowhere (length w / 4) (breaks k reduced u) 0 (λ i l. h i (omega (arith, total plain w P)))))
 
   pub passing-reduced : Passing reduced (reduce w)

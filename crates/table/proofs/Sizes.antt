@@ -9,7 +9,7 @@ use mathlib.Core.List.{List}
 use lib.ListN.{length}
 use lib.Dec.{ltb, leb}
 use borrow.Author.Tests.{ltb-false, leb-true, leb-false, lt-ltb, le-ltb, le-leb, lt-leb}
-use Rattle.lists.specs.declared.Found.TheVariants.{Nothing}
+use Rattle.std.specs.Prelude.{None}
 use Rattle.std.specs.Prelude.{if◌then◌else◌}
 use Rattle.lists.specs.Tab.{sum}
 use Rattle.lists.specs.First.{first}
@@ -71,7 +71,7 @@ sort-before k e = elim (dec_le 16 k) [
 
 -- ---- a table that does not break 5
 
-module _ (m : MachineKind) (w : List ℕ) (none : first (breaks 5 m (table_of w)) 0 (length w / 4) ≡ Nothing) where
+module _ (m : MachineKind) (w : List ℕ) (none : first (breaks 5 m (table_of w)) 0 (length w / 4) ≡ None) where
   abbrev n : ℕ
   n = length w / 4
 
@@ -183,7 +183,7 @@ module _ (m : MachineKind) (w : List ℕ) (none : first (breaks 5 m (table_of w)
 
   -- ---- and how many there are, where 6 is not broken
 
-  module _ (none6 : first (breaks 6 m (table_of w)) 0 (length w / 4) ≡ Nothing) where
+  module _ (none6 : first (breaks 6 m (table_of w)) 0 (length w / 4) ≡ None) where
     unbroken6 : (i : ℕ) → i < n → breaks6 (table_of w) i ≡ false
     unfolding breaks
     unbroken6 i h = first-nowhere-at n (breaks 6 m (table_of w)) 0 none6 i (omega arith) (omega arith)
@@ -224,13 +224,15 @@ module _ (m : MachineKind) (w : List ℕ) (none : first (breaks 5 m (table_of w)
         arith,
         within (dn + most_rows) (dn + most_rows) (is_row (kind (dn + most_rows)))
             (or_right (is_node (kind (dn + most_rows)) && leb (d + most_nodes) (dn + most_rows)) _
-            (or_right (is_declaration (kind (dn + most_rows)) && leb most_declarations (dn + most_rows)) _ (unbroken6 (dn + most_rows) (omega (arith, all_lines)))))
+            (or_right (is_declaration (kind (dn + most_rows)) && leb most_declarations (dn + most_rows)) _
+            (unbroken6 (dn + most_rows) (omega (arith, all_lines)))))
             (row_at (dn + most_rows) (omega (arith, all_lines)) (omega arith)),
       ))
     ]
 
 -- at most 32 declarations, 1,024 nodes and 256 rows, and no other line
-pub sizes : (m : MachineKind) (w : List ℕ) → length w % 4 ≡ 0 → first (breaks 5 m (table_of w)) 0 (length w / 4) ≡ Nothing
-    → first (breaks 6 m (table_of w)) 0 (length w / 4) ≡ Nothing
-    → ((table_of w).decls ≤ 32) × ((table_of w).nodes ≤ 1024) × ((table_of w).rows ≤ 256) × ((table_of w).decls + (table_of w).nodes + (table_of w).rows ≡ length w / 4)
+pub sizes : (m : MachineKind) (w : List ℕ) → length w % 4 ≡ 0 → first (breaks 5 m (table_of w)) 0 (length w / 4) ≡ None
+    → first (breaks 6 m (table_of w)) 0 (length w / 4) ≡ None
+    → ((table_of w).decls ≤ 32) × ((table_of w).nodes ≤ 1024) × ((table_of w).rows ≤ 256) ×
+    ((table_of w).decls + (table_of w).nodes + (table_of w).rows ≡ length w / 4)
 sizes m w e a b = (few-declarations m w a b, few-nodes m w a b, few-rows m w a b, all_lines m w a)

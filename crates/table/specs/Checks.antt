@@ -2,13 +2,13 @@
 use Rattle.std.specs.Prelude.{ℕ, ◌/◌, ◌%◌, Bool, false, List, [], ◌∷◌, length, eqb}
 use Rattle.std.specs.Prelude.{if◌then◌else◌}
 use Rattle.lists.specs.First.{first}
-use Rattle.lists.specs.declared.Found.{Found}
-use Rattle.lists.specs.declared.Found.TheVariants.{At, Nothing}
+use Rattle.std.specs.Prelude.{Option}
+use Rattle.std.specs.Prelude.{Some, None}
 use Rattle.model.specs.Table.{Table, table_of}
 use Rattle.model.specs.State.{MachineKind}
 use Rattle.procedures.specs.Misplaced.{breaks17}
-use Rattle.table.specs.declared.Verdict.{Verdict}
-use Rattle.table.specs.declared.Verdict.TheVariants.{Passes, Refused}
+use Rattle.table.specs.Verdict.{Verdict}
+use Rattle.table.specs.Verdict.Verdict.{Passes, Refused}
 use Rattle.line_checks.specs.Rules.{breaks5, breaks6, breaks7, breaks8, breaks9, breaks10, breaks12}
 use Rattle.loop_checks.specs.Rules.{breaks11, breaks16}
 
@@ -32,11 +32,11 @@ abbrev pub order : List ℕ
 order = 5 ∷ 6 ∷ 7 ∷ 8 ∷ 9 ∷ 10 ∷ 11 ∷ 12 ∷ 16 ∷ 17 ∷ []
 
 -- the first check that a line breaks, at the first such line (rules 6.2, 6.3)
-abbrev pub refused_at_line : Found → ℕ → Verdict → Verdict
-refused_at_line (At line) k rest = Refused k line
-refused_at_line Nothing k rest = rest
+abbrev pub refused_at_line : Option ℕ → ℕ → Verdict → Verdict
+refused_at_line (Some line) k rest = Refused k line
+refused_at_line None k rest = rest
 
-unfoldable pub first_refusal : (ℕ → Found) → List ℕ → Verdict
+unfoldable pub first_refusal : (ℕ → Option ℕ) → List ℕ → Verdict
 first_refusal f [] = Passes
 first_refusal f (k ∷ ks) = let rest = first_refusal f ks in refused_at_line (f k) k rest
 

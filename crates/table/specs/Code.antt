@@ -3,7 +3,7 @@ use Rattle.std.specs.Prelude.{ℕ, ◌/◌, Bool, List, length}
 use Rattle.std.specs.Prelude.{if◌then◌else◌}
 use Rattle.lists.specs.Tab.{sum}
 use Rattle.lists.specs.First.{first}
-use Rattle.lists.specs.declared.Found.{Found}
+use Rattle.std.specs.Prelude.{Option}
 use Rattle.model.specs.Table.{line_at, count, is_declaration, is_node, is_row}
 use Rattle.kinds.specs.declared.Counts.{Counts}
 use Rattle.kinds.specs.Kinds.{machine_of}
@@ -21,5 +21,5 @@ abbrev pub up_to : (ℕ → Bool) → List ℕ → ℕ → ℕ
 up_to sort w n = sum n (one sort w)
 
 -- the first line that breaks a check
-abbrev pub first_of : ℕ → Bool → List ℕ → Counts → Found
+abbrev pub first_of : ℕ → Bool → List ℕ → Counts → Option ℕ
 first_of k reduced w c = first (breaks k (machine_of reduced) (table_by w c)) 0 (length w / 4)

@@ -3,7 +3,7 @@ use Rattle.std.specs.Prelude.{◌≡◌, ℕ, ◌<◌, ◌≤◌, List, [], ◌�
 use Rattle.model.specs.Table.{table_of, open_at}
 use Rattle.model.specs.State.{MachineKind}
 use Rattle.loop_checks.specs.Sharing.{Shares, FirstShares, AllDiffer, iterators_of}
-use Rattle.table.specs.declared.Verdict.TheVariants.{Passes, Refused}
+use Rattle.table.specs.Verdict.Verdict.{Passes, Refused}
 use Rattle.table.specs.Checks.{checked_by, table_check}
 
 -- no table that passes has a loop that shares the iterator of one around it (rule 1.18)

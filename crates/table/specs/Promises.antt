@@ -8,7 +8,7 @@ use Rattle.model.specs.Step.{run}
 use Rattle.model.specs.Reduce.{reduce}
 use Rattle.model.specs.Accepted.{Accepted, CanHave}
 use Rattle.model.specs.Demand3.{Ends, Demand3}
-use Rattle.table.specs.declared.Verdict.TheVariants.{Passes}
+use Rattle.table.specs.Verdict.Verdict.{Passes}
 use Rattle.table.specs.Checks.{table_check}
 
 -- passing gives what demand 3 asks of a table

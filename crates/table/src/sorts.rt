@@ -2,7 +2,7 @@
 ghost use Rattle.std.specs.Prelude.{◌≡◌, ◌≤◌, ◌/◌, length};
 ghost use Rattle.table.specs.Code.{counts_of};
 
-use kinds::{Counts, one_if};
+use kinds::Counts;
 
 // The counts of a table's whole lines. Public for the machines.
 pub fn counts_of(words: &[u32]) -> Counts
@@ -13,13 +13,11 @@ pub fn counts_of(words: &[u32]) -> Counts
     let mut decls: usize = 0;
     let mut nodes: usize = 0;
     let mut rows: usize = 0;
-    let mut i: usize = 0;
-    while i < lines {
+    for i in 0..lines {
         let kind = words[4 * i];
-        decls += one_if(kind < 16);
-        nodes += one_if((16 <= kind) & (kind < 32));
-        rows += one_if(32 <= kind);
-        i += 1;
+        decls += usize::from(kind < 16);
+        nodes += usize::from((16 <= kind) & (kind < 32));
+        rows += usize::from(32 <= kind);
     }
     Counts { decls, nodes, rows }
 }

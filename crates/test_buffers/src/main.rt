@@ -3,11 +3,10 @@
 // buffer is lent the check number of all of it at exit.
 #![tactic(auto)]
 
-use file::{Read, Written};
-use std::io;
+use file::{read_file, write_file};
 use std::io::Write;
-use testing::{print, print_part, print_refusal, print_verdict};
-use wire::{size, word};
+use testing::{check_of, print, print_part, print_refusal, print_verdict};
+use wire::{next_message, put_words, word};
 
 // The bytes of the longest case.
 const ROOM: usize = 42008;
@@ -20,28 +19,30 @@ const WORDS: usize = 10496;
 
 const BYTES: usize = 44032;
 
+// The check number of a buffer that was lent.
+fn print_buffer<W: Write, T: Copy + Into<u32>>(to: &mut W, lent: &[T]) {
+    print_part(to, b" buffer ", u64::from(check_of(lent)));
+}
+
 fn read_into<W: Write>(to: &mut W, file: &[u8], lent: &mut [u32]) {
-    let r = file::read_file(file, lent);
-    match r {
-        Read::Lines(n) => print_part(to, b"lines ", n as u64),
-        Read::Refused(number, place) => print_refusal(to, number, place as u64),
+    match read_file(file, lent) {
+        Ok(lines) => print_part(to, b"lines ", u64::from(lines)),
+        Err(r) => print_refusal(to, r),
     }
-    print_part(to, b" buffer ", testing::check_of(lent) as u64);
+    print_buffer(to, lent);
 }
 
 fn write_into<W: Write>(to: &mut W, words: &[u32], lent: &mut [u8]) {
-    let w = file::write_file(words, lent);
-    match w {
-        Written::Bytes(n) => print_part(to, b"bytes ", n as u64),
-        Written::Refused(number, place) => print_refusal(to, number, place as u64),
+    match write_file(words, lent) {
+        Ok(bytes) => print_part(to, b"bytes ", u64::from(bytes)),
+        Err(r) => print_refusal(to, r),
     }
-    print_part(to, b" buffer ", testing::check_of_bytes(lent) as u64);
+    print_buffer(to, lent);
 }
 
 fn reduce_into<W: Write>(to: &mut W, words: &[u32], c1: u32, c2: u32, lent: &mut [u32]) {
-    let v = reduction::reduce_table(words, c1, c2, lent);
-    print_verdict(to, v);
-    print_part(to, b" buffer ", testing::check_of(lent) as u64);
+    print_verdict(to, reduction::reduce_table(words, c1, c2, lent));
+    print_buffer(to, lent);
 }
 
 // The reader or the reduction, with a buffer of so many words, each the same; a longer one is not lent.
@@ -68,7 +69,7 @@ fn lend_bytes<W: Write>(to: &mut W, words: &[u32], n: usize, fill: u8) {
 
 // The call that the head of a case asks for; its input is bytes, and beside them the words that they spell.
 fn call<W: Write>(to: &mut W, head: &[u8], input: &[u8], words: &[u32]) {
-    let n = size(word(head, 4));
+    let n = word(head, 4) as usize;
     let fill = word(head, 8);
     match word(head, 0) {
         0 | 2 => lend_words(to, head, input, words, n, fill),
@@ -82,7 +83,7 @@ fn call<W: Write>(to: &mut W, head: &[u8], input: &[u8], words: &[u32]) {
 
 // Puts the words of the input into a lent buffer, and calls.
 fn filled<W: Write>(to: &mut W, head: &[u8], input: &[u8], words: &mut [u32]) {
-    wire::put_words(words, input);
+    put_words(words, input);
     call(to, head, input, words);
 }
 
@@ -92,7 +93,7 @@ fn report<W: Write>(to: &mut W, s: &[u8]) {
         return;
     }
     let input = &s[HEAD..];
-    if input.len() != size(word(s, 20)) {
+    if input.len() != word(s, 20) as usize {
         return;
     }
     let n = input.len() / 4;
@@ -103,22 +104,14 @@ fn report<W: Write>(to: &mut W, s: &[u8]) {
     filled(to, s, input, &mut words[..n]);
 }
 
-// One case: whether there was one.
-fn run<R: io::Read, W: Write>(from: &mut R, to: &mut W, room: &mut [u8]) -> bool {
-    let c = wire::next_message(from, room);
-    if c.there {
-        report(to, &room[..c.bytes]);
-    }
-    c.there
-}
-
 fn main(rt: HostRuntime) {
     let mut room = [0u8; ROOM];
     let mut from = rt.stdin();
     let mut to = rt.stdout();
     for _ in 0..1000u32 {
-        if !run(&mut from, &mut to, &mut room) {
+        let Some(n) = next_message(&mut from, &mut room) else {
             return;
-        }
+        };
+        report(&mut to, &room[..n]);
     }
 }

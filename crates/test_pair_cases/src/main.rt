@@ -2,27 +2,19 @@
 #![tactic(auto)]
 
 use printing::print_pair;
-use std::io::{Read, Write};
+use wire::next_message;
 
 // No case has more bytes.
 const ROOM: usize = 24576;
-
-// One case: whether there was one.
-fn run<R: Read, W: Write>(from: &mut R, to: &mut W, room: &mut [u8]) -> bool {
-    let c = wire::next_message(from, room);
-    if c.there {
-        print_pair(to, &room[..c.bytes]);
-    }
-    c.there
-}
 
 fn main(rt: HostRuntime) {
     let mut room = [0u8; ROOM];
     let mut from = rt.stdin();
     let mut to = rt.stdout();
     for _ in 0..100000u32 {
-        if !run(&mut from, &mut to, &mut room) {
+        let Some(n) = next_message(&mut from, &mut room) else {
             return;
-        }
+        };
+        print_pair(&mut to, &room[..n]);
     }
 }

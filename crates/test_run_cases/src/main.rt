@@ -11,9 +11,9 @@ use calls::{CALLER, DEPTH, STACK};
 use cuts::Whole;
 use lists::word_or_zero;
 use machine::{Machine, Record};
-use runs::{Answered, Ran};
+use runs::Ran;
 use std::io::{Read, Write};
-use table::Verdict;
+use table::Refusal;
 use testing::{check_of, mixed, print, print_end, print_part};
 use wire::size;
 
@@ -62,16 +62,13 @@ fn kind_of(t: &[u32], i: usize) -> u32
 // A variable's number, and its base after it if it is a pointer.
 fn with_variable(h: u32, kind: u32, number: u32, base: u32) -> u32 {
     let n = mixed(h, number);
-    if kind == 3 {
-        return mixed(n, base);
-    }
-    n
+    if kind == 3 { mixed(n, base) } else { n }
 }
 
 fn with_variables(mut h: u32, m: Machine, t: &[u32]) -> u32 {
     for i in 0..32 {
         let kind = kind_of(t, i);
-        if kind < 1 || 3 < kind {
+        if !(1..=3).contains(&kind) {
             return h;
         }
         h = with_variable(h, kind, m.numbers[i], m.bases[i]);
@@ -79,19 +76,12 @@ fn with_variables(mut h: u32, m: Machine, t: &[u32]) -> u32 {
     h
 }
 
-fn shape_word(shape: u8) -> u32 {
-    if shape == 1 {
-        return 1;
-    }
-    0
-}
-
 fn with_arrays(mut h: u32, m: Machine) -> u32 {
     let count = m.count as usize;
     for i in 0..count.min(16) {
         h = mixed(
             mixed(mixed(h, m.firsts[i]), m.lengths[i]),
-            shape_word(m.shapes[i]),
+            u32::from(m.shapes[i] == 1),
         );
     }
     h
@@ -101,18 +91,16 @@ fn with_arrays(mut h: u32, m: Machine) -> u32 {
 fn local_count(t: &[u32], row: u32) -> u32 {
     let mut above = row;
     let mut count: u32 = 0;
-    let mut rest = &t[..];
-    while 4 <= rest.len() {
-        if 32 <= rest[0] {
+    for line in t.chunks_exact(4) {
+        if 32 <= line[0] {
             if above == 0 {
                 return count;
             }
             above -= 1;
         }
-        if rest[0] == 43 {
-            count = rest[2];
+        if line[0] == 43 {
+            count = line[2];
         }
-        rest = &rest[4..];
     }
     count
 }
@@ -173,26 +161,19 @@ fn record_check(r: Record, t: &[u32]) -> u32 {
 // Output
 
 fn print_ran<W: Write>(to: &mut W, r: Ran, t: &[u32]) {
-    let e = r.end;
-    let record = r.record;
-    let m = record.machine;
-    print_end(to, e);
-    print_part(to, b" row ", m.row as u64);
-    print_part(to, b" steps ", r.steps as u64);
+    print_end(to, r.end);
+    print_part(to, b" row ", u64::from(r.record.machine.row));
+    print_part(to, b" steps ", u64::from(r.steps));
     print_part(to, b" choices ", r.used);
-    print_part(to, b" record ", record_check(record, t) as u64);
+    print_part(to, b" record ", u64::from(record_check(r.record, t)));
 }
 
-fn print_answer<W: Write>(to: &mut W, a: Answered, t: &[u32], cells: &[u32]) {
-    let v = a.verdict;
-    match v {
-        Verdict::Refused(number, place) => testing::print_refusal(to, number, place as u64),
-        Verdict::Passes => {
-            let r = a.ran;
-            print_ran(to, r, t);
-        }
+fn print_answer<W: Write>(to: &mut W, answer: Result<Ran, Refusal>, t: &[u32], cells: &[u32]) {
+    match answer {
+        Ok(ran) => print_ran(to, ran, t),
+        Err(r) => testing::print_refusal(to, r),
     }
-    print_part(to, b" cells ", check_of(cells) as u64);
+    print_part(to, b" cells ", u64::from(check_of(cells)));
 }
 
 // Edits of a record and of the cells
@@ -221,13 +202,6 @@ fn edited_variable(mut m: Machine, field: u32, slot: usize, value: u32) -> Machi
     m
 }
 
-fn shape_of(value: u32) -> u8 {
-    if value < 256 {
-        return value as u8;
-    }
-    255
-}
-
 fn edited_array(mut m: Machine, field: u32, slot: usize, value: u32) -> Machine {
     if 16 <= slot {
         return m;
@@ -235,7 +209,7 @@ fn edited_array(mut m: Machine, field: u32, slot: usize, value: u32) -> Machine 
     match field {
         8 => m.firsts[slot] = value,
         9 => m.lengths[slot] = value,
-        _ => m.shapes[slot] = shape_of(value),
+        _ => m.shapes[slot] = u8::try_from(value).unwrap_or(u8::MAX),
     }
     m
 }
@@ -267,45 +241,43 @@ fn edited_stack(mut stack: [u32; STACK], field: u32, slot: usize, value: u32) ->
 
 // The record with one part changed.
 fn edited_record(r: Record, field: u32, slot: usize, value: u32) -> Record {
-    let m = r.machine;
-    let s = r.stack;
-    let machine = edited_part(m, field, slot, value);
-    let stack = edited_stack(s, field, slot, value);
-    Record { machine, stack }
+    Record {
+        machine: edited_part(r.machine, field, slot, value),
+        stack: edited_stack(r.stack, field, slot, value),
+    }
 }
 
 // The record with the changes of a list of edits.
 fn edited(mut r: Record, edits: &[u32]) -> Record {
-    let mut rest = &edits[..];
-    while 3 <= rest.len() {
-        r = edited_record(r, rest[0], size(rest[1]), rest[2]);
-        rest = &rest[3..];
+    for edit in edits.chunks_exact(3) {
+        r = edited_record(r, edit[0], size(edit[1]), edit[2]);
     }
     r
 }
 
 // One edit, where it is of the cells.
 fn edit_cell(cells: &mut [u32], field: u32, slot: usize, value: u32) {
-    if field != 11 {
-        return;
-    }
-    if slot < cells.len() {
+    if field == 11 && slot < cells.len() {
         cells[slot] = value;
     }
 }
 
 // The changes of a list of edits to the cells.
 fn edit_cells(cells: &mut [u32], edits: &[u32]) {
-    let mut rest = &edits[..];
-    while 3 <= rest.len() {
-        edit_cell(cells, rest[0], size(rest[1]), rest[2]);
-        rest = &rest[3..];
+    for edit in edits.chunks_exact(3) {
+        edit_cell(cells, edit[0], size(edit[1]), edit[2]);
     }
 }
 
 // Runs
 
-fn fresh_run(q: Asked, t: &[u32], cells: &mut [u32], list: &[u32], limit: u32) -> Answered {
+fn fresh_run(
+    q: Asked,
+    t: &[u32],
+    cells: &mut [u32],
+    list: &[u32],
+    limit: u32,
+) -> Result<Ran, Refusal> {
     if q.reduced {
         return runs::run_reduced(t, q.c1, q.c2, cells, list, limit);
     }
@@ -319,7 +291,7 @@ fn continued_run(
     cells: &mut [u32],
     list: &[u32],
     limit: u32,
-) -> Answered {
+) -> Result<Ran, Refusal> {
     if q.reduced {
         return runs::continue_reduced(r, t, q.c1, q.c2, cells, list, limit);
     }
@@ -327,10 +299,15 @@ fn continued_run(
 }
 
 // The first run, as often as asked; the last of them is the one that counts.
-fn first_run(q: Asked, t: &[u32], cells: &mut [u32], list: &[u32], limit: u32) -> Answered {
-    let times = q.times;
-    for _ in 1..times {
-        fresh_run(q, t, cells, list, limit);
+fn first_run(
+    q: Asked,
+    t: &[u32],
+    cells: &mut [u32],
+    list: &[u32],
+    limit: u32,
+) -> Result<Ran, Refusal> {
+    for _ in 1..q.times {
+        let _ = fresh_run(q, t, cells, list, limit);
     }
     fresh_run(q, t, cells, list, limit)
 }
@@ -353,7 +330,7 @@ fn one_run(
     cells: &mut [u32],
     list: &[u32],
     limit: u32,
-) -> Answered {
+) -> Result<Ran, Refusal> {
     if first {
         return first_run(q, t, cells, list, limit);
     }
@@ -361,19 +338,16 @@ fn one_run(
 }
 
 // What to continue with: the record of the run and how many choices it used, or after a refusal the record before it and none.
-fn kept_of(a: Answered, before: Record) -> Kept {
-    let v = a.verdict;
-    let Verdict::Passes = v else {
-        return Kept {
+fn kept_of(answer: Result<Ran, Refusal>, before: Record) -> Kept {
+    match answer {
+        Ok(ran) => Kept {
+            record: ran.record,
+            used: ran.used as usize,
+        },
+        Err(_) => Kept {
             record: before,
             used: 0,
-        };
-    };
-    let r = a.ran;
-    let record = r.record;
-    Kept {
-        record,
-        used: r.used as usize,
+        },
     }
 }
 
@@ -387,13 +361,7 @@ fn print_cuts<W: Write>(
     after: &[u32],
     spare: &mut [u32],
 ) {
-    let q = w.asked;
-    if !q.cut {
-        return;
-    }
-    let a = w.answered;
-    let v = a.verdict;
-    if let Verdict::Passes = v {
+    if w.asked.cut && w.answered.is_ok() {
         print_part(to, b" cuts ", cuts::cuts(w, t, list, before, after, spare));
     }
 }
@@ -557,11 +525,10 @@ fn report<W: Write>(to: &mut W, s: &[u8]) -> bool {
 
 // One case: whether there was one that fits.
 fn run<R: Read, W: Write>(from: &mut R, to: &mut W, room: &mut [u8]) -> bool {
-    let c = wire::next_message(from, room);
-    if !c.there {
+    let Some(n) = wire::next_message(from, room) else {
         return false;
-    }
-    report(to, &room[..c.bytes])
+    };
+    report(to, &room[..n])
 }
 
 fn main(rt: HostRuntime) {

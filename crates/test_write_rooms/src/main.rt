@@ -6,9 +6,9 @@
 ghost use Rattle.std.specs.Prelude.{◌≤◌};
 
 use calls::DEPTH;
-use runs::Answered;
+use runs::Ran;
 use std::io::Write;
-use table::Verdict;
+use table::Refusal;
 use testing::{check_of, print, print_part};
 
 const MOST: usize = 31;
@@ -31,45 +31,45 @@ const CALLS: [u32; 88] = [
 ];
 
 fn print_word<W: Write>(to: &mut W, word: u32) {
-    print_part(to, b" ", word as u64);
+    print_part(to, b" ", u64::from(word));
 }
 
 fn print_list<W: Write>(to: &mut W, list: &[u32]) {
-    for i in 0..list.len() {
-        print_word(to, list[i]);
+    for number in list {
+        print_word(to, *number);
     }
     print(to, b"\n");
 }
 
-fn print_answer<W: Write>(to: &mut W, a: Answered, cells: &[u32]) {
-    let v = a.verdict;
-    print(to, b" ");
-    let Verdict::Passes = v else {
-        testing::print_verdict(to, v);
-        return;
-    };
-    let w = a.ran;
-    let end = w.end;
-    testing::print_end(to, end);
-    let r = w.record;
-    let m = r.machine;
-    print_part(to, b" row ", m.row as u64);
-    print_part(to, b" steps ", w.steps as u64);
-    print_part(to, b" count ", w.used);
-    print_part(to, b" open ", m.open as u64);
-    print_part(to, b" arrays ", m.count as u64);
+fn print_ran<W: Write>(to: &mut W, ran: Ran, cells: &[u32]) {
+    let record = ran.record;
+    let machine = record.machine;
+    testing::print_end(to, ran.end);
+    print_part(to, b" row ", u64::from(machine.row));
+    print_part(to, b" steps ", u64::from(ran.steps));
+    print_part(to, b" count ", ran.used);
+    print_part(to, b" open ", u64::from(machine.open));
+    print_part(to, b" arrays ", u64::from(machine.count));
     print(to, b" callers");
-    print_word(to, r.stack[DEPTH]);
+    print_word(to, record.stack[DEPTH]);
     print(to, b" iterator");
-    print_word(to, m.numbers[0]);
-    print_part(to, b" cells ", check_of(cells) as u64);
+    print_word(to, machine.numbers[0]);
+    print_part(to, b" cells ", u64::from(check_of(cells)));
     print(to, b":");
+}
+
+fn print_answer<W: Write>(to: &mut W, answer: Result<Ran, Refusal>, cells: &[u32]) {
+    print(to, b" ");
+    match answer {
+        Ok(ran) => print_ran(to, ran, cells),
+        Err(r) => testing::print_refusal(to, r),
+    }
 }
 
 fn write_in<W: Write>(to: &mut W, t: &[u32], list: &mut [u32]) {
     let mut cells = [7u32; CELLS];
-    let a = choices::write_choices(t, 1, 3, &mut cells, list, 100);
-    print_answer(to, a, &cells);
+    let answer = choices::write_choices(t, 1, 3, &mut cells, list, 100);
+    print_answer(to, answer, &cells);
     print_list(to, list);
 }
 

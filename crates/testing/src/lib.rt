@@ -1,13 +1,13 @@
 // What the test programs share: the parts of the lines that they print, and check numbers of words and of bytes.
 #![tactic(auto)]
 
-ghost use Rattle.std.specs.Prelude.{◌≡◌};
+ghost use Rattle.std.specs.Prelude.{◌≡◌, ℕ, map};
 ghost use Rattle.testing.specs.Checks.{mixed_with, check_number};
 
 use evaluators::answers::reason_number;
 use machine::End;
 use std::io::Write;
-use table::Verdict;
+use table::Refusal;
 
 // Output
 
@@ -23,52 +23,32 @@ pub fn print_part<W: Write>(to: &mut W, name: &[u8], n: u64) {
 }
 
 // Prints a refusal (rule 8.2), but not the end of its line.
-pub fn print_refusal<W: Write>(to: &mut W, number: u32, place: u64) {
-    print_part(to, b"refused ", number as u64);
-    print_part(to, b" line ", place);
+pub fn print_refusal<W: Write>(to: &mut W, r: Refusal) {
+    print_part(to, b"refused ", u64::from(r.check.number()));
+    print_part(to, b" line ", r.place as u64);
 }
 
 // Prints a refusal, or that there is none.
-pub fn print_verdict<W: Write>(to: &mut W, v: Verdict) {
-    match v {
-        Verdict::Refused(number, place) => print_refusal(to, number, place as u64),
-        Verdict::Passes => {
-            print(to, b"passes");
-        }
+pub fn print_verdict<W: Write>(to: &mut W, checked: Result<(), Refusal>) {
+    match checked {
+        Err(r) => print_refusal(to, r),
+        Ok(()) => print(to, b"passes"),
     }
 }
 
 // Prints the name of an end (rule 8.4), a failure with its reason (rule 8.17); the choice writer has one more, `full`.
 pub fn print_end<W: Write>(to: &mut W, e: End) {
     match e {
-        End::Done => {
-            print(to, b"done");
-        }
-        End::AssertFalse => {
-            print(to, b"assert");
-        }
-        End::AssumeFalse => {
-            print(to, b"assume");
-        }
-        End::Fail(reason) => print_part(to, b"fail reason ", reason_number(reason) as u64),
-        End::WantOfCells => {
-            print(to, b"room");
-        }
-        End::OutOfSteps => {
-            print(to, b"steps");
-        }
-        End::ChoiceNotAllowed => {
-            print(to, b"badchoice");
-        }
-        End::NoChoiceLeft => {
-            print(to, b"nochoice");
-        }
-        End::ListFull => {
-            print(to, b"full");
-        }
-        End::TooDeep => {
-            print(to, b"deep");
-        }
+        End::Done => print(to, b"done"),
+        End::AssertFalse => print(to, b"assert"),
+        End::AssumeFalse => print(to, b"assume"),
+        End::Fail(reason) => print_part(to, b"fail reason ", u64::from(reason_number(reason))),
+        End::WantOfCells => print(to, b"room"),
+        End::OutOfSteps => print(to, b"steps"),
+        End::ChoiceNotAllowed => print(to, b"badchoice"),
+        End::NoChoiceLeft => print(to, b"nochoice"),
+        End::ListFull => print(to, b"full"),
+        End::TooDeep => print(to, b"deep"),
     }
 }
 
@@ -78,37 +58,16 @@ pub fn print_end<W: Write>(to: &mut W, e: End) {
 pub fn mixed(h: u32, w: u32) -> u32
     ensures { result ≡ mixed_with h w }
 {
-    ((h as u64 * 31 + w as u64) % 4294967296) as u32
+    h.wrapping_mul(31).wrapping_add(w)
 }
 
-// The check number of words, from 0 on.
-pub fn check_of(s: &[u32]) -> u32
-    ensures { result ≡ check_number s.now }
+// The check number of words or of bytes, from 0 on.
+pub fn check_of<T: Copy + Into<u32>>(s: &[T]) -> u32
+    ensures { (word : T → ℕ) → ((x : T) (w : ℕ) → T.converts x w → w ≡ word x) → result ≡ check_number (map word s.now) }
 {
-    let mut h: u32 = 0;
-    let mut i: usize = 0;
-    while i < s.len() {
-        h = mixed(h, s[i]);
-        i += 1;
-    }
-    h
-}
-
-fn wide(b: u8) -> u32
-    ensures { result ≡ b }
-{
-    b as u32
-}
-
-// The check number of bytes, from 0 on.
-pub fn check_of_bytes(s: &[u8]) -> u32
-    ensures { result ≡ check_number s.now }
-{
-    let mut h: u32 = 0;
-    let mut i: usize = 0;
-    while i < s.len() {
-        h = mixed(h, wide(s[i]));
-        i += 1;
+    let mut h = 0;
+    for x in s {
+        h = mixed(h, (*x).into());
     }
     h
 }

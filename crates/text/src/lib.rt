@@ -1,60 +1,40 @@
-// What the bench program prints, put into a lent buffer byte by byte.
+// What the bench program prints, put into a lent buffer byte by byte. It is not put by `write!`: of what that wrote a proof knows only where it
+// answers Ok, and nothing says that it does.
 #![tactic(auto)]
 
-ghost use Rattle.std.specs.Prelude.{◌≡◌, ◌++◌, ◌<◌, ◌≤◌, length, drop};
-ghost use Rattle.recording.specs.CodePushes.{pushed, push};
+ghost use Rattle.std.specs.Prelude.{◌≡◌, ◌++◌, ◌≤◌, length, drop};
 ghost use Rattle.machine.specs.View.{end_of};
 ghost use Rattle.pair.specs.Pairs.{line_of, said_of};
 ghost use Rattle.pair.specs.Pairs.PairSaid.{refusal, lines};
+ghost use Rattle.table.specs.Verdict.{check_number};
 ghost use Rattle.text.specs.CodePuts.{Puts};
-ghost use Rattle.text.specs.Text.{digit, decimal, end_text, run_text, pair_text, printed};
+ghost use Rattle.text.specs.Text.{decimal, end_text, run_text, pair_text, printed};
 
 use evaluators::answers::reason_number;
+use itoa::Buffer;
 use machine::End;
 use pair::{Line, Paired, pair_run};
-use table::Verdict;
-
-// Puts a byte at a place and answers the place after it; a buffer that has no such place is left as it is.
-fn put(out: &mut [u8], at: usize, b: u8) -> usize
-    ensures { pushed out.new result ≡ push b (pushed out.old at) }
-{
-    if at < out.len() {
-        out[at] = b;
-        return at + 1;
-    }
-    at
-}
+use recording::pushes::push;
+use table::Refusal;
 
 // Puts the bytes of a word.
 fn put_word(out: &mut [u8], at: usize, word: &[u8]) -> usize
     ensures { Puts word.now out.old at out.new result }
 {
     let mut next = at;
-    let mut i: usize = 0;
-    while i < word.len() {
-        next = put(out, next, word[i]);
-        i += 1;
+    for b in word {
+        next = push(out, next, *b);
     }
     next
-}
-
-// The character of a digit.
-fn digit_of(d: u64) -> u8
-    requires { d < 10 }
-    ensures { result ≡ digit d }
-{
-    48 + d as u8
 }
 
 // Puts a number in decimal.
 fn put_number(out: &mut [u8], at: usize, n: u64) -> usize
     ensures { Puts (decimal n) out.old at out.new result }
 {
-    if n < 10 {
-        return put(out, at, digit_of(n));
-    }
-    let next = put_number(out, at, n / 10);
-    put(out, next, digit_of(n % 10))
+    let mut digits = Buffer::new();
+    let text = digits.format(n);
+    put_word(out, at, text.as_bytes())
 }
 
 // Puts a part of a line: its name and a number, which has at most 20 digits.
@@ -74,7 +54,7 @@ fn put_end(out: &mut [u8], at: usize, e: End) -> usize
         End::Done => put_word(out, at, b"done"),
         End::AssertFalse => put_word(out, at, b"assert"),
         End::AssumeFalse => put_word(out, at, b"assume"),
-        End::Fail(reason) => put_part(out, at, b"fail reason ", reason_number(reason) as u64),
+        End::Fail(reason) => put_part(out, at, b"fail reason ", u64::from(reason_number(reason))),
         End::WantOfCells => put_word(out, at, b"room"),
         End::OutOfSteps => put_word(out, at, b"steps"),
         End::ChoiceNotAllowed => put_word(out, at, b"badchoice"),
@@ -91,17 +71,17 @@ fn put_run(out: &mut [u8], at: usize, line: Line) -> usize
 {
     let e = line.end;
     let a = put_end(out, at, e);
-    let b = put_part(out, a, b" row ", line.row as u64);
-    put_part(out, b, b" steps ", line.steps as u64)
+    let b = put_part(out, a, b" row ", u64::from(line.row));
+    put_part(out, b, b" steps ", u64::from(line.steps))
 }
 
 // Puts a refusal.
-fn put_refusal(out: &mut [u8], number: u32, place: usize) -> usize
-    ensures puts { Puts (pair_text (refusal number place)) out.old 0 out.new result }
-    ensures place_len_bound { length (pair_text (refusal number place)) ≤ 256 }
+fn put_refusal(out: &mut [u8], r: Refusal) -> usize
+    ensures puts { Puts (pair_text (refusal (check_number r.check) r.place)) out.old 0 out.new result }
+    ensures len_bound { length (pair_text (refusal (check_number r.check) r.place)) ≤ 256 }
 {
-    let a = put_part(out, 0, b"refused ", number as u64);
-    let b = put_part(out, a, b" line ", place as u64);
+    let a = put_part(out, 0, b"refused ", u64::from(r.check.number()));
+    let b = put_part(out, a, b" line ", r.place as u64);
     put_word(out, b, b"\n")
 }
 
@@ -119,14 +99,13 @@ fn put_runs(out: &mut [u8], plain: Line, pair: Line) -> usize
 }
 
 // Puts an answer.
-fn put_paired(out: &mut [u8], p: Paired) -> usize
-    ensures puts { Puts (pair_text (said_of p)) out.old 0 out.new result }
-    ensures p_len_bound { length (pair_text (said_of p)) ≤ 256 }
+fn put_paired(out: &mut [u8], answer: Result<Paired, Refusal>) -> usize
+    ensures puts { Puts (pair_text (said_of answer)) out.old 0 out.new result }
+    ensures len_bound { length (pair_text (said_of answer)) ≤ 256 }
 {
-    let v = p.verdict;
-    match v {
-        Verdict::Refused(number, place) => put_refusal(out, number, place),
-        Verdict::Passes => put_runs(out, p.plain, p.pair),
+    match answer {
+        Ok(both) => put_runs(out, both.plain, both.pair),
+        Err(r) => put_refusal(out, r),
     }
 }
 

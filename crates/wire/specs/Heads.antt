@@ -1,13 +1,11 @@
 -- The head of an answer: what a run or the choice writer came to, in eight words (rule 8.26).
-use Rattle.std.specs.Prelude.{ℕ, ◌/◌, ◌%◌, ◌^◌, List, [], ◌∷◌}
+use Rattle.std.specs.Prelude.{ℕ, ◌/◌, ◌%◌, ◌^◌, List, [], ◌∷◌, Result, Ok, Err}
 use Rattle.model.specs.Work.{reason_number}
 use Rattle.evaluators.specs.Reasons.{reason_of}
 use Rattle.machine.specs.declared.End.{End}
-use Rattle.machine.specs.declared.End.TheVariants as End
-use Rattle.table.specs.declared.Verdict.{Verdict}
-use Rattle.table.specs.declared.Verdict.TheVariants.{Passes, Refused}
+use Rattle.table.specs.declared.verdict.Refusal.{Refusal}
+use Rattle.table.specs.Verdict.{check_number}
 use Rattle.runs.specs.declared.Ran.{Ran}
-use Rattle.runs.specs.declared.Answered.{Answered}
 
 -- an end by its number (rule 8.26; the ends: rule 2.29)
 abbrev pub end_number : End → ℕ
@@ -41,10 +39,10 @@ ran_head r =
     0 ∷ 0 ∷ end_number r.end ∷ reason_in r.end ∷ r.steps ∷ r.used % 2 ^ 32 ∷ r.used / 2 ^ 32 ∷ r.«record».machine.row ∷ []
 
 -- a refusal's number and place, and nothing else (rules 6.1, 8.26)
-abbrev pub head_by : Verdict → Ran → List ℕ
-head_by Passes r = ran_head r
-head_by (Refused number place) r = number ∷ place % 2 ^ 32 ∷ 0 ∷ 0 ∷ 0 ∷ 0 ∷ 0 ∷ 0 ∷ []
+abbrev pub refused_head : Refusal → List ℕ
+refused_head r = check_number r.check ∷ r.place % 2 ^ 32 ∷ 0 ∷ 0 ∷ 0 ∷ 0 ∷ 0 ∷ 0 ∷ []
 
 -- the head of what a run or the choice writer answered (rule 8.26)
-abbrev pub head_of : Answered → List ℕ
-head_of a = head_by a.verdict a.ran
+abbrev pub head_of : Result Ran Refusal → List ℕ
+head_of (Ok ran) = ran_head ran
+head_of (Err r) = refused_head r

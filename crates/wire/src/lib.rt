@@ -2,30 +2,22 @@
 // choice writer as words.
 #![tactic(auto)]
 
-ghost use Rattle.std.specs.Prelude.{◌≡◌, ◌<◌, ◌≤◌, length};
-ghost use Rattle.file.specs.Word.{byte_of};
+ghost use Rattle.std.specs.Prelude.{◌≡◌, ◌<◌, ◌≤◌, length, IfSome};
 ghost use Rattle.wire.specs.Messages.{word_or_zero, words_of, byte_at, bytes_of};
-ghost use Rattle.wire.specs.Heads.{end_number, reason_in, ran_head, head_by, head_of};
+ghost use Rattle.wire.specs.Heads.{end_number, reason_in, ran_head, refused_head, head_of};
 
 use evaluators::answers::reason_number;
 use file::word::word_at;
 use lists::word_or_zero;
 use machine::End;
-use runs::{Answered, Ran};
-use std::io::{Read, Write};
-use table::Verdict;
+use runs::Ran;
+use std::io::{self, Read, Write};
+use table::Refusal;
 
 // The words that are sent at once.
 const CHUNK: usize = 1024;
 
 // Messages
-
-// The message that was read: whether there was one that fits, and its length in bytes.
-#[derive(Clone, Copy)]
-pub struct Message {
-    pub there: bool,
-    pub bytes: usize,
-}
 
 // A word as a size.
 pub fn size(n: u32) -> usize
@@ -38,111 +30,59 @@ pub fn size(n: u32) -> usize
 pub fn word(s: &[u8], at: usize) -> u32
     ensures { result ≡ word_or_zero s.now at }
 {
-    if s.len() < 4 {
-        return 0;
+    if at < s.len().saturating_sub(3) {
+        return word_at(s, at);
     }
-    if s.len() - 4 < at {
-        return 0;
-    }
-    word_at(s, at)
+    0
 }
 
 // Puts the words that bytes spell into as many lent words, 0 where the bytes end.
 pub fn put_words(words: &mut [u32], s: &[u8])
     ensures { words.new ≡ words_of s.now (length words.old) }
 {
-    let mut i: usize = 0;
-    while i < words.len() {
-        words[i] = word(s, i * 4);
-        i += 1;
+    for (i, w) in words.iter_mut().enumerate() {
+        *w = word(s, i * 4);
     }
 }
 
-// Reads the length of the next message and then the message, into the front of a lent buffer.
-pub fn next_message<R: Read>(from: &mut R, room: &mut [u8]) -> Message
-    ensures { result.bytes ≤ length room.new }
+// Reads the length of the next message and then the message, into the front of a lent buffer: its length in bytes, if there was one that fits.
+pub fn next_message<R: Read>(from: &mut R, room: &mut [u8]) -> Option<usize>
+    ensures { IfSome result (λ n. n ≤ length room.new) }
 {
-    let none = Message {
-        there: false,
-        bytes: 0,
-    };
     let mut length = [0u8; 4];
-    if from.read_exact(&mut length).is_err() {
-        return none;
-    }
-    let n = size(word(&length, 0));
-    if room.len() < n {
-        return none;
-    }
-    if from.read_exact(&mut room[..n]).is_err() {
-        return none;
-    }
-    Message {
-        there: true,
-        bytes: n,
-    }
+    from.read_exact(&mut length).ok()?;
+    let n = u32::from_le_bytes(length) as usize;
+    from.read_exact(room.get_mut(..n)?).ok()?;
+    Some(n)
 }
 
 // Words as bytes
-
-// Byte b of a word, the lowest first.
-fn byte_of(w: u32, b: usize) -> u8
-    requires { b < 4 }
-    ensures { result ≡ byte_of w b }
-{
-    match b {
-        0 => (w % 256) as u8,
-        1 => (w / 256 % 256) as u8,
-        2 => (w / 65536 % 256) as u8,
-        _ => (w / 16777216 % 256) as u8,
-    }
-}
 
 // Byte i of words, 0 past their end.
 fn byte_at(words: &[u32], i: usize) -> u8
     ensures { result ≡ byte_at words.now i }
 {
-    byte_of(word_or_zero(words, i / 4), i % 4)
+    word_or_zero(words, i / 4).to_le_bytes()[i % 4]
 }
 
 // Puts the bytes of words into lent bytes, 0 where the words end.
 pub fn put_bytes(out: &mut [u8], words: &[u32])
     ensures { out.new ≡ bytes_of words.now (length out.old) }
 {
-    let mut i: usize = 0;
-    while i < out.len() {
-        out[i] = byte_at(words, i);
-        i += 1;
+    for (i, b) in out.iter_mut().enumerate() {
+        *b = byte_at(words, i);
     }
 }
 
-// Sends words by way of a lent buffer of as many bytes: whether all were written.
-fn send_through<W: Write>(to: &mut W, space: &mut [u8], words: &[u32]) -> bool {
-    put_bytes(space, words);
-    to.write_all(space).is_ok()
-}
-
-// The same of at most 1,024 words, and a buffer of 4,096 bytes.
-fn send_chunk<W: Write>(to: &mut W, space: &mut [u8], words: &[u32]) -> bool {
-    if CHUNK < words.len() {
-        return false;
-    }
-    let n = 4 * words.len();
-    if space.len() < n {
-        return false;
-    }
-    send_through(to, &mut space[..n], words)
-}
-
-// Writes words as bytes: whether all were written.
-pub fn send_words<W: Write>(to: &mut W, words: &[u32]) -> bool {
+// Writes words as bytes, by way of a buffer of 4,096.
+pub fn send_words<W: Write>(to: &mut W, words: &[u32]) -> io::Result<()> {
     let mut space = [0u8; 4096];
     for part in words.chunks(CHUNK) {
-        if !send_chunk(to, &mut space, part) {
-            return false;
-        }
+        let bytes = &mut space[..4 * part.len()];
+        put_bytes(bytes, part);
+        to.write_all(bytes)?;
     }
-    true
+    Ok(())
 }
 
 // Heads
@@ -170,16 +110,8 @@ fn reason_in(e: End) -> u32
     ensures { result ≡ reason_in e }
 {
     match e {
-        End::Done => 0,
-        End::AssertFalse => 0,
-        End::AssumeFalse => 0,
         End::Fail(reason) => reason_number(reason),
-        End::WantOfCells => 0,
-        End::OutOfSteps => 0,
-        End::ChoiceNotAllowed => 0,
-        End::NoChoiceLeft => 0,
-        End::ListFull => 0,
-        End::TooDeep => 0,
+        _ => 0,
     }
 }
 
@@ -187,40 +119,41 @@ fn reason_in(e: End) -> u32
 fn ran_head(r: Ran) -> [u32; 8]
     ensures { result ≡ ran_head r }
 {
-    let e = r.end;
-    let record = r.record;
-    let m = record.machine;
-    let used = r.used;
     [
         0,
         0,
-        end_number(e),
-        reason_in(e),
+        end_number(r.end),
+        reason_in(r.end),
         r.steps,
-        (used % 4294967296) as u32,
-        (used / 4294967296) as u32,
-        m.row,
+        (r.used % 4294967296) as u32,
+        (r.used / 4294967296) as u32,
+        r.record.machine.row,
     ]
 }
 
-// The head by the verdict.
-fn head_by(v: Verdict, r: Ran) -> [u32; 8]
-    ensures { result ≡ head_by v r }
+// The head of a refusal: its number and its place.
+pub fn refused_head(r: Refusal) -> [u32; 8]
+    ensures { result ≡ refused_head r }
 {
-    match v {
-        Verdict::Refused(number, place) => {
-            [number, (place % 4294967296) as u32, 0, 0, 0, 0, 0, 0]
-        }
-        Verdict::Passes => ran_head(r),
-    }
+    [
+        r.check.number(),
+        (r.place % 4294967296) as u32,
+        0,
+        0,
+        0,
+        0,
+        0,
+        0,
+    ]
 }
 
 // What a run or the choice writer answered: a refusal's number and place, or 0; then the end, the reason of a failure, the steps, the choices
 // used, low and high, and the row, each 0 after a refusal.
-pub fn head_of(a: Answered) -> [u32; 8]
-    ensures { result ≡ head_of a }
+pub fn head_of(answer: Result<Ran, Refusal>) -> [u32; 8]
+    ensures { result ≡ head_of answer }
 {
-    let v = a.verdict;
-    let r = a.ran;
-    head_by(v, r)
+    match answer {
+        Ok(ran) => ran_head(ran),
+        Err(r) => refused_head(r),
+    }
 }

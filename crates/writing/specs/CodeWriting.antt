@@ -1,7 +1,7 @@
 -- The code's own words: how many numbers a row has, and how the choice writer stops.
 use Rattle.std.specs.Prelude.{ℕ, suc, List}
-use Rattle.evaluators.specs.declared.answers.Failure.{Failure}
-use Rattle.evaluators.specs.declared.answers.Failure.TheVariants.{Fails, BadChoice, NoChoice, Stuck}
+use Rattle.machine.specs.declared.Failure.{Failure}
+use Rattle.machine.specs.declared.Failure.TheVariants.{Fails, BadChoice, NoChoice, Stuck}
 use Rattle.machine.specs.declared.Machine.{Machine}
 use Rattle.machine.specs.declared.Worked.{Worked}
 use Rattle.machine.specs.declared.Worked.TheVariants.{Moves, Ends, Not}

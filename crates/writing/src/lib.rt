@@ -8,12 +8,11 @@ ghost use Rattle.calls.specs.CallAndReturn.{Procedures, CanCall, CanReturn};
 ghost use Rattle.machine.specs.declared.Move.TheVariants.{Calls, Returns};
 ghost use Rattle.machine.specs.View.{own_state};
 ghost use Rattle.machine.specs.CodeMoves.{state_after};
-ghost use Rattle.runs.specs.CodeSteps.{ran};
 ghost use Rattle.writing.specs.CodeWriting.{count_of, failed_end, stopped_of};
 
 use calls::{call, give_back};
 use evaluators::answers::Failure;
-use machine::{End, Machine, Record, Worked};
+use machine::{End, Machine, Worked};
 use prepared::copies::copy;
 use runs::Ran;
 
@@ -22,9 +21,7 @@ pub fn count_of(w: Worked) -> usize
     ensures { result ≡ count_of w }
 {
     match w {
-        Worked::Moves(_, n) => n,
-        Worked::Ends(_, n) => n,
-        Worked::Not(_, n) => n,
+        Worked::Moves(_, n) | Worked::Ends(_, n) | Worked::Not(_, n) => n,
     }
 }
 
@@ -37,40 +34,26 @@ pub fn write_numbers(list: &mut [u32], at: usize, numbers: &[u32], n: usize) -> 
     at + n
 }
 
-// An end after so many steps, with so many numbers written.
-pub fn wrote_to(end: End, steps: u32, at: usize, machine: Machine, stack: [u32; 241]) -> Ran
-    ensures { result ≡ ran end steps at machine stack }
-{
-    let record = Record { machine, stack };
-    Ran {
-        end,
-        steps,
-        used: at as u64,
-        record,
-    }
-}
-
 // The end of a row that failed. A plain row takes no choice and is never stuck: what stands for those is never handed back.
 pub fn failed_end(why: Failure) -> End
     ensures { result ≡ failed_end why }
 {
     match why {
         Failure::Fails(reason) => End::Fail(reason),
-        Failure::BadChoice => End::OutOfSteps,
-        Failure::NoChoice => End::OutOfSteps,
-        Failure::Stuck => End::OutOfSteps,
+        Failure::BadChoice | Failure::NoChoice | Failure::Stuck => End::OutOfSteps,
     }
 }
 
-// A row that did not go on, after so many steps, with the row's numbers written.
+// A row that did not go on, after so many steps, with the row's numbers written. It is not the `stopped` of `runs`: there the row's own place counts,
+// and a row whose choice fails is no step.
 pub fn stopped(w: Worked, steps: u32, at: usize, machine: Machine, stack: [u32; 241]) -> Ran
     requires { steps < 4294967295 }
     ensures { result ≡ stopped_of w steps at machine stack }
 {
     match w {
-        Worked::Ends(end, _) => wrote_to(end, steps + 1, at, machine, stack),
-        Worked::Not(why, _) => wrote_to(failed_end(why), steps + 1, at, machine, stack),
-        Worked::Moves(_, _) => wrote_to(End::OutOfSteps, steps + 1, at, machine, stack),
+        Worked::Ends(end, _) => Ran::at_end(end, steps + 1, at, machine, stack),
+        Worked::Not(why, _) => Ran::at_end(failed_end(why), steps + 1, at, machine, stack),
+        Worked::Moves(_, _) => Ran::at_end(End::OutOfSteps, steps + 1, at, machine, stack),
     }
 }
 
@@ -88,9 +71,6 @@ pub fn after_call(
         → own_state own.now stack.new result cells ≡ state_after own.now stack.old m cells (Calls k x) }
 {
     let mut numbers = m.numbers;
-    let rows = m.loop_rows;
-    let starts = m.starts;
-    let ends = m.ends;
     let next = call(
         own,
         map,
@@ -98,9 +78,9 @@ pub fn after_call(
         &mut numbers,
         m.row,
         m.open,
-        &rows,
-        &starts,
-        &ends,
+        &m.loop_rows,
+        &m.starts,
+        &m.ends,
         k,
         x,
     );

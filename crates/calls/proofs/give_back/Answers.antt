@@ -19,7 +19,8 @@ put_back-requires-clause-own_bound c =
 
 pub put_back-requires-clause-c_bound : goal.put_back-requires-clause-c_bound
 put_back-requires-clause-c_bound c =
-    let back = back-there _ _ c.requires.0 _ _ c.requires.1 in omega (arith, receives _ _ c.requires.0 _ _ c.requires.1, c.requires.0.decls, c.row_word-c.ensures)
+    let back = back-there _ _ c.requires.0 _ _ c.requires.1 in
+    omega (arith, receives _ _ c.requires.0 _ _ c.requires.1, c.requires.0.decls, c.row_word-c.ensures)
 
 pub overflow_add-next : goal.overflow_add-next
 overflow_add-next c =

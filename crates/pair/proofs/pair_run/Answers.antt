@@ -1,11 +1,13 @@
 -- By the length of the input.
 -- Assumes nothing.
-use Rattle.pair.proofs.InputLaws.{short-said, long-said}
-use borrow.Author.Rules.{rules}
+use borrow.Author.Tests.{lt-ltb}
+use Rattle.pair.specs.Pairs.{pair_said}
+use Rattle.pair.proofs.InputLaws.{long-said}
 use Rattle.pair.proofs.pair_run.Goals as goal
 
 pub returns-then-input-lt12 : goal.returns-then-input-lt12
-returns-then-input-lt12 c = short-said c.args.input.now c.refused.result c.if-input-lt12.true c.refused.ensures
+unfolding pair_said
+returns-then-input-lt12 c = rw (lt-ltb _ _ c.if-input-lt12.true) (cc c.of_whole.ensures)
 
 pub returns : goal.returns
 returns c =

@@ -1,6 +1,6 @@
 -- `map_procedures` meets its contract: before each row the map is right of the procedures opened before it and of the rows above it.
 -- Assumes nothing.
-use Prim.Native.Nat.{◌≤◌, ◌-◌}
+use Prim.Native.Nat.{◌≤◌}
 use mathlib.Core.Path.{◌≡◌}
 use Rattle.model.specs.Table.{home}
 use Rattle.model.specs.Procedures.{opened_before}
@@ -10,12 +10,8 @@ use Rattle.procedures.proofs.map_procedures.Given as goal
 
 abbrev pub invariant-loop-row : goal.invariant-loop-row
 invariant-loop-row l =
-    (l.row ≤ l.counts.rows)
-    × (l.home ≤ l.row)
+    (l.home ≤ l.row)
     × (l.opened ≤ l.row)
     × (l.home ≡ home (table_by l.words l.counts) l.row)
     × (l.opened ≡ opened_before (table_by l.words l.counts) l.row)
     × MappedBefore (table_by l.words l.counts) l.map l.row
-
-abbrev pub decreases-loop-row : goal.decreases-loop-row
-decreases-loop-row l = l.counts.rows - l.row

@@ -1,28 +1,30 @@
 -- By what the operands gave: p, q and r are the places after the start, the end and the numbers of the loop.
 -- Assumes nothing.
-use Rattle.machine.specs.CodeMoves.{columns}
 use Rattle.recording_rows.proofs.LoopRowLaws.{loop-no-start, loop-no-end, loop-recorded}
 use Rattle.evaluators.proofs.OtherAnswers.{answer-no-uint}
 use Rattle.recording_rows.proofs.record_loop.Goals as goal
 
 pub returns-in_default : goal.returns-in_default
-returns-in_default c a rows starts ends lr ls le =
+returns-in_default c a lr ls le =
     let g = c.args in
-    let m = columns g.here g.ns.now g.bs.now g.«open» rows starts ends g.count g.fs.now g.ls.now g.hs.now in
-    loop-no-start g.own.now m g.cells.now g.held.now c.requires.2 a g.b g.c _ _ _ c.record_uint-x.ensures
+    let e = g.inputs.now in
+    let m = e.machine.now in
+    loop-no-start e.own.now m e.cells.now g.held.now c.requires.2 a g.b g.c _ _ _ c.record_uint-x.ensures
     (answer-no-uint _ c.in_default.not-Uint) c.lost.ensures
 
 pub returns-in_default-y : goal.returns-in_default-y
-returns-in_default-y c a rows starts ends lr ls le =
+returns-in_default-y c a lr ls le =
     let g = c.args in
-    let m = columns g.here g.ns.now g.bs.now g.«open» rows starts ends g.count g.fs.now g.ls.now g.hs.now in
-    loop-no-end g.own.now m g.cells.now g.held.now c.requires.2 a g.b g.c _ _ _ c.record_uint-x.ensures
+    let e = g.inputs.now in
+    let m = e.machine.now in
+    loop-no-end e.own.now m e.cells.now g.held.now c.requires.2 a g.b g.c _ _ _ c.record_uint-x.ensures
     c.in-Uint.is _ _ c.record_uint-y.ensures (answer-no-uint _ c.in_default-y.not-Uint) c.lost-in_default-y.ensures
 
 pub returns : goal.returns
-returns c a rows starts ends lr ls le =
+returns c a lr ls le =
     let g = c.args in
-    let m = columns g.here g.ns.now g.bs.now g.«open» rows starts ends g.count g.fs.now g.ls.now g.hs.now in
-    loop-recorded g.own.now m g.cells.now g.held.now c.requires.2 a g.b g.c _ _ _ c.record_uint-x.ensures
+    let e = g.inputs.now in
+    let m = e.machine.now in
+    loop-recorded e.own.now m e.cells.now g.held.now c.requires.2 a g.b g.c _ _ _ c.record_uint-x.ensures
     c.in-Uint.is _ _ c.record_uint-y.ensures _ _ c.requires.1 lr ls le c.in-Uint-y.is
     c.record_bounds-n.ensures c.entry.ensures

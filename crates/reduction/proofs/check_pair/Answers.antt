@@ -1,4 +1,5 @@
 -- The code tests what the definition tests.
+use mathlib.Core.Path.{◌∙◌}
 use Rattle.lists.proofs.Flags.{flags}
 use Rattle.model.specs.Class.{accepted_places}
 use Rattle.reduction.proofs.check_pair.Goals as goal
@@ -9,4 +10,4 @@ returns-then-c1-c2 c = search flags
 
 pub returns : goal.returns
 unfolding accepted_places
-returns c = search flags
+returns c = c.of_whole.ensures ∙ search flags

@@ -2,7 +2,6 @@
 -- Assumes nothing.
 use Rattle.lists.specs.Tab.{tab, listed}
 use Rattle.text.specs.Text.{bytes}
-use borrow.Author.Rules.{rules}
 use Rattle.text.proofs.put_end.Goals as goal
 
 pub returns-in-Done : goal.returns-in-Done
@@ -20,7 +19,7 @@ returns-in-AssumeFalse c = rw c.in-AssumeFalse.is c.put_word-in-AssumeFalse.ensu
 pub returns-in-Fail : goal.returns-in-Fail
 unfolding bytes tab listed
 returns-in-Fail c =
-    rw (c.in-Fail.is, ← c.reason_number.ensures) c.put_part.ensures.puts
+    rw (c.in-Fail.is, ← c.reason_number.ensures, ← c.from.ensures) c.put_part.ensures.puts
 
 pub returns-in-WantOfCells : goal.returns-in-WantOfCells
 unfolding bytes tab listed

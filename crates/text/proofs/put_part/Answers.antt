@@ -2,7 +2,6 @@
 -- Assumes nothing.
 use native.Mathlib.Omega.{arith}
 use Rattle.text.proofs.TextLaws.{decimal-length, then-put}
-use borrow.Author.Rules.{rules}
 use Rattle.text.proofs.put_part.Goals as goal
 
 pub returns-clause-n_len_bound : goal.returns-clause-n_len_bound

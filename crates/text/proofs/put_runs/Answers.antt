@@ -3,7 +3,6 @@
 use Rattle.lists.specs.Tab.{tab, listed}
 use Rattle.text.specs.Text.{bytes, pair_text}
 use Rattle.text.proofs.TextLaws.{then-put, runs-most}
-use borrow.Author.Rules.{rules}
 use Rattle.text.proofs.put_runs.Goals as goal
 
 pub returns-clause-puts : goal.returns-clause-puts

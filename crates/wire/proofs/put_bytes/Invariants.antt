@@ -1,14 +1,8 @@
 -- The bytes below i are put.
-use Rattle.std.proofs.Common.{length, take, ◌-◌, ◌≡◌, ◌≤◌}
+use Rattle.std.proofs.Common.{take, ◌≡◌}
 use Rattle.lists.specs.Tab.{tab}
 use Rattle.wire.specs.Messages.{byte_at}
 use Rattle.wire.proofs.put_bytes.Given as goal
 
 abbrev pub invariant-loop-i : goal.invariant-loop-i
-invariant-loop-i l =
-    (l.i ≤ length l.initial.out)
-    × (length l.out ≡ length l.initial.out)
-    × (take l.i l.out ≡ tab l.i (byte_at l.words))
-
-abbrev pub decreases-loop-i : goal.decreases-loop-i
-decreases-loop-i l = length l.initial.out - l.i
+invariant-loop-i l = take l.i l.out ≡ tab l.i (byte_at l.words)

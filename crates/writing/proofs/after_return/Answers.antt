@@ -1,7 +1,6 @@
 -- By the law of the machine after it.
 -- Assumes nothing.
 use Rattle.machine.proofs.StateLaws.{returned-state}
-use borrow.Author.Rules.{rules}
 use Rattle.writing.proofs.after_return.Goals as goal
 
 pub returns : goal.returns

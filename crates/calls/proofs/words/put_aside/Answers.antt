@@ -1,7 +1,6 @@
--- The words one after another; a list that is lent on as a slice tells how long it is.
+-- The words one after another.
 -- Assumes nothing.
 use native.Mathlib.Omega.{arith}
-use lib.ListN.{length-set}
 use Rattle.calls.specs.Code.{aside}
 use Rattle.calls.proofs.words.put_aside.Goals as goal
 
@@ -9,7 +8,7 @@ pub returns : goal.returns
 unfolding aside
 returns c = (
   record {
-    of_stack = simp length-set at c.copy_part-arg-1.given.0.1;
+    of_stack = omega arith;
     of_numbers = omega arith;
     of_rows = omega arith;
     of_starts = omega arith;

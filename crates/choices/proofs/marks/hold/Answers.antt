@@ -1,7 +1,6 @@
 -- By whether there is a place for one more array.
 -- Assumes nothing.
 use Rattle.choices.proofs.HeldLaws.{held-put, held_kept}
-use borrow.Author.Rules.{rules}
 use Rattle.choices.proofs.marks.hold.Goals as goal
 
 pub returns-then-count-lt-ARRAYS : goal.returns-then-count-lt-ARRAYS

@@ -9,4 +9,4 @@ pub returns-in_default : goal.returns-in_default
 returns-in_default c = chosen_none (λ v. true) _ _ c.take_choice-x.ensures c.in_default.is
 
 pub returns : goal.returns
-returns c = chosen-one (λ v. true) _ _ c.take_choice-x.ensures c.in-Is.is refl
+returns c = chosen-one (λ v. true) _ _ c.take_choice-x.ensures c.in-Some.is refl

@@ -14,10 +14,10 @@ returns-in_default c =
 
 pub returns-then-class_in-k : goal.returns-then-class_in-k
 returns-then-class_in-k c =
-    chosen-one (λ v. eqb (class (places_of c.args.own.now) v) c.args.k) _ _ c.take_choice-x.ensures c.in-Is.is
+    chosen-one (λ v. eqb (class (places_of c.args.own.now) v) c.args.k) _ _ c.take_choice-x.ensures c.in-Some.is
     (eq-eqb _ _ (sym c.class_in.ensures ∙ c.if-class_in-k.true))
 
 pub returns : goal.returns
 returns c =
-    chosen-bad (λ v. eqb (class (places_of c.args.own.now) v) c.args.k) _ _ c.take_choice-x.ensures c.in-Is.is
+    chosen-bad (λ v. eqb (class (places_of c.args.own.now) v) c.args.k) _ _ c.take_choice-x.ensures c.in-Some.is
     (ne_eqb _ _ (λ e. c.if-class_in-k.false (c.class_in.ensures ∙ e)))

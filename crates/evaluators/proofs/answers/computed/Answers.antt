@@ -1,4 +1,4 @@
--- Each answer is the branch that its tests choose; the sum is tested without overflow.
+-- Each answer is the branch that the library's method chose.
 -- Assumes nothing.
 use native.Mathlib.Omega.{arith}
 use Prim.Native.Nat.{◌+◌, ◌≤◌, ◌<◌}
@@ -8,22 +8,25 @@ use Rattle.evaluators.specs.CodeLeaves.{arith as arith_of}
 use Rattle.evaluators.proofs.AnswerLaws.{said-uint, said-fails}
 use Rattle.evaluators.proofs.answers.computed.Goals as goal
 
-pub returns-then-w-v : goal.returns-then-w-v
+pub returns-in-Some : goal.returns-in-Some
 unfolding arith_of
-returns-then-w-v c = record { says = λ l. said-uint (rw (c.if-minus.true, le-leb _ _ c.if-w-v.true)) }
+returns-in-Some c = record { says = λ l. said-uint (rw (c.if-minus.true, c.in-Some.ensures.1, le-leb _ _ c.in-Some.ensures.0)) }
 
-pub returns-then-minus : goal.returns-then-minus
+pub returns-in-None : goal.returns-in-None
 unfolding arith_of
-returns-then-minus c = record { says = λ l. said-fails uint _ (rw (c.if-minus.true, lt-leb _ _ c.if-w-v.false)) }
+returns-in-None c =
+    let h : c.args.v < c.args.w = omega (arith, c.in-None.ensures) in
+    record { says = λ l. said-fails uint _ (rw (c.if-minus.true, lt-leb _ _ h)) }
 
-pub returns-then-w-v-2 : goal.returns-then-w-v-2
+pub returns-in-Some-checked_add : goal.returns-in-Some-checked_add
 unfolding arith_of
-returns-then-w-v-2 c =
-    let h : c.args.v + c.args.w ≤ 4294967295 = omega arith in
-    record { says = λ l. said-uint (rw (c.if-minus.false, le-leb _ _ h)) }
+returns-in-Some-checked_add c =
+    let sum = c.in-Some-checked_add.ensures in
+    let h : c.args.v + c.args.w ≤ 4294967295 = omega (arith, sum.0) in
+    record { says = λ l. said-uint (rw (c.if-minus.false, sum.1, le-leb _ _ h)) }
 
-pub returns : goal.returns
+pub returns-in-None-checked_add : goal.returns-in-None-checked_add
 unfolding arith_of
-returns c =
-    let h : 4294967295 < c.args.v + c.args.w = omega arith in
+returns-in-None-checked_add c =
+    let h : 4294967295 < c.args.v + c.args.w = omega (arith, c.in-None-checked_add.ensures) in
     record { says = λ l. said-fails uint _ (rw (c.if-minus.false, lt-leb _ _ h)) }

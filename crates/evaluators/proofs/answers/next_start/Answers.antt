@@ -1,4 +1,4 @@
--- The sum is tested without overflow.
+-- The sum by the library's method.
 -- Assumes nothing.
 use native.Mathlib.Omega.{arith}
 use Prim.Native.Nat.{◌+◌, ◌≤◌, ◌<◌}
@@ -7,12 +7,13 @@ use Rattle.model.specs.Table.Ty.{uint}
 use Rattle.evaluators.proofs.AnswerLaws.{said-uint, said-fails}
 use Rattle.evaluators.proofs.answers.next_start.Goals as goal
 
-pub returns-then-v-lt4294967295 : goal.returns-then-v-lt4294967295
-returns-then-v-lt4294967295 c =
-    let h : c.args.v + 1 ≤ 4294967295 = omega (arith, c.if-v-lt4294967295.true) in
-    record { says = λ l. said-uint (rw (le-leb _ _ h)) }
+pub returns-in-Some : goal.returns-in-Some
+returns-in-Some c =
+    let sum = c.in-Some.ensures in
+    let h : c.args.v + 1 ≤ 4294967295 = omega (arith, sum.0) in
+    record { says = λ l. said-uint (rw (sum.1, le-leb _ _ h)) }
 
-pub returns : goal.returns
-returns c =
-    let h : 4294967295 < c.args.v + 1 = omega (arith, c.if-v-lt4294967295.false) in
+pub returns-in-None : goal.returns-in-None
+returns-in-None c =
+    let h : 4294967295 < c.args.v + 1 = omega (arith, c.in-None.ensures) in
     record { says = λ l. said-fails uint _ (rw (lt-leb _ _ h)) }

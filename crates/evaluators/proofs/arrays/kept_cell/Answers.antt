@@ -20,4 +20,4 @@ pub returns : goal.returns
 returns c =
     let g = c.args in
     rw c.if-reduced.false (says_same (c.stored-2.ensures.says _)
-    (sym (ap (λ m. m (drop g.at g.list.now)) (read_plain g.tracking (places_of g.own.now) _ _ _ _))))
+    (sym (ap (λ m. m (drop g.at g.inputs.now.list.now)) (read_plain g.tracking (places_of g.inputs.now.own.now) _ _ _ _))))

@@ -20,4 +20,4 @@ returns-else-x-le1 c =
 
 pub returns-in_default : goal.returns-in_default
 returns-in_default c =
-    holds-none-uint _ _ _ _ c.if-own-a.false c.form_at-form.ensures (assumption c.in_default)
+    holds-none-uint _ _ _ _ c.if-own-a.false c.form_at-form.ensures c.in_default.not-Uint c.in_default.not-Bool

@@ -1,70 +1,55 @@
--- Each answer is the branch of the definition that its tests choose.
-use Rattle.std.proofs.Common.{length, sym, ◌∙◌, arith, eq-eqb, ne_eqb}
-use Rattle.lists.proofs.FirstLaws.{first_below}
-use Rattle.file.specs.Reading.{blocks, wrong_check, wrong_block, read_answer}
-use Rattle.file.proofs.ReadingLaws.{length-fits, lines_fit}
+-- Each answer is the branch of the definition that its checks choose.
+use Rattle.std.proofs.Common.{arith, sym, ◌∙◌, rules}
+use Rattle.std.proofs.lemmas.Result.{err_from_is_err_and}
+use Rattle.file.specs.Reading.{wrong_check, wrong_block}
+use Rattle.file.proofs.ReadingLaws.{wrong-in-length, wrong-in-check, wrong-in-block, wrong_in_room, accepts, lines_fit}
 use Rattle.file.proofs.checks.answer.Goals as goal
 
--- At each place: `c2` is where check 2 was made, `c3` where check 3 was.
-
 pub returns-then-wrong_length : goal.returns-then-wrong_length
-unfolding read_answer
-returns-then-wrong_length c = rw (sym c.wrong_length.ensures ∙ c.if-wrong_length.true)
+returns-then-wrong_length c = wrong-in-length _ _ (sym c.wrong_length.ensures ∙ c.if-wrong_length.true)
+
+pub returns-in_err-broken_at : goal.returns-in_err-broken_at
+returns-in_err-broken_at c =
+    let bs = c.args.bytes.now in
+    let long = sym c.wrong_length.ensures ∙ c.if-wrong_length.false in
+    let sums = c.first_where.ensures (wrong_check bs) (λ i b l q. search rules) in
+    let p = err_from_is_err_and c.from_residual.result c.from_residual.ensures.1 in
+    rw (p.1, p.2) (wrong-in-check bs _ long _ _ sums c.in_err-broken_at.ensures)
+
+pub returns-in_err-broken_at-2 : goal.returns-in_err-broken_at-2
+returns-in_err-broken_at-2 c =
+    let bs = c.args.bytes.now in
+    let n = c.lines_in_all-n.result in
+    let long = sym c.wrong_length.ensures ∙ c.if-wrong_length.false in
+    let sums = c.first_where.ensures (wrong_check bs) (λ i b l q. search rules) in
+    let layout = c.first_where-2.ensures (wrong_block bs n) (λ i b l q. search rules) in
+    let p = err_from_is_err_and c.from_residual-in_err-broken_at-2.result c.from_residual-in_err-broken_at-2.ensures.1 in
+    rw (p.1, p.2) (wrong-in-block bs _ long _ sums c.in_ok-broken_at.ensures n _ _ c.lines_in_all-n.ensures layout c.in_err-broken_at-2.ensures)
+
+pub returns-then-room-ne-TABLE_WORDS : goal.returns-then-room-ne-TABLE_WORDS
+returns-then-room-ne-TABLE_WORDS c =
+    let bs = c.args.bytes.now in
+    let n = c.lines_in_all-n.result in
+    let long = sym c.wrong_length.ensures ∙ c.if-wrong_length.false in
+    let sums = c.first_where.ensures (wrong_check bs) (λ i b l q. search rules) in
+    let layout = c.first_where-2.ensures (wrong_block bs n) (λ i b l q. search rules) in
+    wrong_in_room bs c.args.room long _ sums c.in_ok-broken_at.ensures n _ c.lines_in_all-n.ensures layout c.in_ok-broken_at-2.ensures
+    (λ e. c.if-room-ne-TABLE_WORDS.true (omega arith))
 
 pub overflow_cast-result : goal.overflow_cast-result
 overflow_cast-result c =
     let bs = c.args.bytes.now in
-    let found = sym c.first_wrong_check.ensures ∙ c.in-At.is in
-    let short = length-fits (length bs) (sym c.wrong_length.ensures ∙ c.if-wrong_length.false) in
-    omega (arith, first_below (blocks bs) (wrong_check bs) 0 c.in-At.k found)
-
-pub returns-in-At : goal.returns-in-At
-unfolding read_answer
-returns-in-At c =
-    rw (
-      sym c.wrong_length.ensures ∙ c.if-wrong_length.false,
-      sym c.first_wrong_check.ensures ∙ c.in-At.is,
-    )
-
-pub overflow_cast-result-in-At-first_wrong_block : goal.overflow_cast-result-in-At-first_wrong_block
-overflow_cast-result-in-At-first_wrong_block c =
-    let bs = c.args.bytes.now in
-    let found = sym c.first_wrong_block.ensures ∙ c.in-At-first_wrong_block.is in
-    let short = length-fits (length bs) (sym c.wrong_length.ensures ∙ c.if-wrong_length.false) in
-    omega (arith, first_below (blocks bs) (wrong_block bs c.lines_in_all-n.result) 0 c.in-At-first_wrong_block.k found)
-
-pub returns-in-At-first_wrong_block : goal.returns-in-At-first_wrong_block
-unfolding read_answer
-returns-in-At-first_wrong_block c =
-    rw (
-      sym c.wrong_length.ensures ∙ c.if-wrong_length.false,
-      sym c.first_wrong_check.ensures ∙ c.in_default.is,
-      rw c.lines_in_all-n.ensures at (sym c.first_wrong_block.ensures ∙ c.in-At-first_wrong_block.is),
-    )
-
-pub returns-then-room-ne-TABLE_WORDS : goal.returns-then-room-ne-TABLE_WORDS
-unfolding read_answer
-returns-then-room-ne-TABLE_WORDS c =
-    rw (
-      sym c.wrong_length.ensures ∙ c.if-wrong_length.false,
-      sym c.first_wrong_check.ensures ∙ c.in_default.is,
-      rw c.lines_in_all-n.ensures at (sym c.first_wrong_block.ensures ∙ c.in_default-first_wrong_block.is),
-      ne_eqb _ _ c.if-room-ne-TABLE_WORDS.true,
-    )
-
-pub overflow_cast-result-2 : goal.overflow_cast-result-2
-overflow_cast-result-2 c =
-    let all = c.lines_in_all-n.ensures in
-    omega (arith, lines_fit _ (rw all at (sym c.first_wrong_block.ensures ∙ c.in_default-first_wrong_block.is)))
+    let n = c.lines_in_all-n.result in
+    let long = sym c.wrong_length.ensures ∙ c.if-wrong_length.false in
+    let sums = c.first_where.ensures (wrong_check bs) (λ i b l q. search rules) in
+    let layout = c.first_where-2.ensures (wrong_block bs n) (λ i b l q. search rules) in
+    omega (arith, lines_fit bs c.args.room long _ sums c.in_ok-broken_at.ensures n _ c.lines_in_all-n.ensures layout c.in_ok-broken_at-2.ensures)
 
 pub returns : goal.returns
-unfolding read_answer
 returns c =
-    let all = c.lines_in_all-n.ensures in
-    rw (
-      sym c.wrong_length.ensures ∙ c.if-wrong_length.false,
-      sym c.first_wrong_check.ensures ∙ c.in_default.is,
-      rw all at (sym c.first_wrong_block.ensures ∙ c.in_default-first_wrong_block.is),
-      eq-eqb _ _ c.if-room-ne-TABLE_WORDS.false,
-      all,
-    )
+    let bs = c.args.bytes.now in
+    let n = c.lines_in_all-n.result in
+    let long = sym c.wrong_length.ensures ∙ c.if-wrong_length.false in
+    let sums = c.first_where.ensures (wrong_check bs) (λ i b l q. search rules) in
+    let layout = c.first_where-2.ensures (wrong_block bs n) (λ i b l q. search rules) in
+    accepts bs c.args.room long _ sums c.in_ok-broken_at.ensures n _ c.lines_in_all-n.ensures layout c.in_ok-broken_at-2.ensures (omega arith)

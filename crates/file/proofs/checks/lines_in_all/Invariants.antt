@@ -1,11 +1,8 @@
 -- The loop has added the counts of k blocks, each below two to the thirty-second.
-use Rattle.std.proofs.Common.{◌≡◌, ◌-◌, ◌*◌, ◌^◌, ◌≤◌}
+use Rattle.std.proofs.Common.{◌≡◌, ◌*◌, ◌^◌, ◌≤◌}
 use Rattle.lists.specs.Tab.{sum}
-use Rattle.file.specs.Reading.{word, blocks}
+use Rattle.file.specs.Reading.{word}
 use Rattle.file.proofs.checks.lines_in_all.Given as goal
 
 abbrev pub invariant-loop-k : goal.invariant-loop-k
-invariant-loop-k l = (l.k ≤ blocks l.bytes) × (l.total ≤ 2 ^ 32 * l.k) × (l.total ≡ sum l.k (λ j. word l.bytes j 125))
-
-abbrev pub decreases-loop-k : goal.decreases-loop-k
-decreases-loop-k l = blocks l.bytes - l.k
+invariant-loop-k l = (l.total ≤ 2 ^ 32 * l.k) × (l.total ≡ sum l.k (λ j. word l.bytes j 125))

@@ -1,24 +1,14 @@
--- The loop has passed r unused words, all zero.
-use Rattle.std.proofs.Common.{◌-◌, ◌*◌, sym, refl, ◌∙◌, arith, rules, eq-eqb, ne_eqb}
-use Rattle.lists.specs.Tab.{all}
-use Rattle.lists.proofs.TabLaws.{all_more, all-stop}
-use Rattle.file.proofs.checks.unused_zero.Invariants.{zero-at}
+-- The range goes over the words of the block past its lines, and each is tested.
+use Rattle.std.proofs.Common.{◌*◌, ◌-◌, nat_eq, ◌∙◌, refl, rules, tests}
+use Rattle.std.proofs.lemmas.Iterator.{YieldsList-from_range}
+use Rattle.std.proofs.lemmas.Iterator.Search.{all_from_yields_List}
+use Rattle.file.specs.Reading.{word}
+use Rattle.file.proofs.MethodLaws.{all-of-range}
 use Rattle.file.proofs.checks.unused_zero.Goals as goal
 
-pub loop-r-init : goal.loop-r-init
-unfolding all
-loop-r-init c = (search rules, refl)
-
-pub returns-then-word_at-ne0 : goal.returns-then-word_at-ne0
-returns-then-word_at-ne0 c =
+pub returns : goal.returns
+returns c =
     let a = c.args in
-    let r = c.loop-r.r in
-    let other = ne_eqb _ 0 (λ e. c.if-word_at-ne0.true (c.word_at.ensures ∙ e)) in
-    sym (all-stop (124 - 4 * a.c) (zero-at a.bytes.now a.k a.c) r (omega arith) other)
-
-pub loop-r-preserved : goal.loop-r-preserved
-loop-r-preserved c =
-    let a = c.args in
-    let head = c.loop-r in
-    let zero = eq-eqb _ 0 (sym c.word_at.ensures ∙ c.if-word_at-ne0.false) in
-    (search rules, all_more (zero-at a.bytes.now a.k a.c) head.r head.invariant.1 zero)
+    all_from_yields_List (λ r. nat_eq (word a.bytes.now a.k r) 0) _ _ _ c.all.ensures.ran (YieldsList-from_range (4 * a.c) 124 (124 - 4 * a.c) refl refl)
+    (λ x b q k. search (rules, tests))
+    ∙ all-of-range _ (4 * a.c) (124 - 4 * a.c) _ (λ r. refl)

@@ -1,40 +1,36 @@
 -- `types::locals_uints` meets its contract: the locals passed are uints.
 -- Assumes nothing.
-use borrow.Author.Rules.{rules}
 use Prim.Native.Nat.{◌+◌}
 use native.Mathlib.Omega.{arith}
 use mathlib.Core.Path.{◌≡◌, refl, sym}
-use lib.Dec.{eqb}
-use borrow.Author.Tests.{eq-eqb, ne_eqb}
+use mathlib.Core.Bool.{true, false}
 use Rattle.lists.specs.Tab.{all}
 use Rattle.lists.proofs.TabLaws.{all_more, all-stop}
+use Rattle.model.specs.Table.Ty.{uint}
+use Rattle.model.specs.Accepted.{same_ty}
 use Rattle.line_checks.specs.Code.{variable_type, locals_uints}
 use Rattle.line_checks.proofs.types.locals_uints.Goals as goal
 
 pub loop-i-init : goal.loop-i-init
 unfolding all
-loop-i-init c = (search rules, refl)
+loop-i-init c = refl
 
-pub returns-then-variable_type-ne-UINT : goal.returns-then-variable_type-ne-UINT
+pub returns-then-not-is_uint : goal.returns-then-not-is_uint
 unfolding locals_uints
-returns-then-variable_type-ne-UINT c =
+returns-then-not-is_uint c =
     let a = c.args in
-    sym (all-stop a.count (λ j. eqb (variable_type a.words.now (a.a + j)) 2) c.loop-i.i c.loop-i-test.true
-    (rw (← c.variable_type.ensures) (ne_eqb c.variable_type.result 2 c.if-variable_type-ne-UINT.true)))
+    let other : same_ty (variable_type a.words.now (a.a + c.loop-i.i)) uint ≡ false = cc in
+    sym (all-stop a.count (λ j. same_ty (variable_type a.words.now (a.a + j)) uint) c.loop-i.i (omega arith) other)
 
 pub loop-i-preserved : goal.loop-i-preserved
 loop-i-preserved c =
     let a = c.args in
-    let at_head = c.loop-i in (
-      search rules,
-      all_more (λ j. eqb (variable_type a.words.now (a.a + j)) 2) at_head.i at_head.invariant.1
-          (rw (← c.variable_type.ensures) (eq-eqb c.variable_type.result 2 c.if-variable_type-ne-UINT.false)),
-    )
+    let is : same_ty (variable_type a.words.now (a.a + c.loop-i.i)) uint ≡ true = cc in
+    all_more (λ j. same_ty (variable_type a.words.now (a.a + j)) uint) c.loop-i.i c.loop-i.invariant is
 
 pub returns : goal.returns
 unfolding locals_uints
 returns c =
     let a = c.args in
-    let at_head = c.loop-i in
-    let e : at_head.i ≡ a.count = omega arith in
-    sym (rw e at at_head.invariant.1)
+    let e : c.loop-i.i ≡ a.count = omega arith in
+    sym (rw e at c.loop-i.invariant)

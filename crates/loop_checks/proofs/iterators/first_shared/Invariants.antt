@@ -1,13 +1,13 @@
 -- `iterators::first_shared` meets its contract: what is sought from line 0 on is what is sought from a row on, with the rows of the open loops kept.
 -- Assumes nothing.
-use Prim.Native.Nat.{ℕ, ◌≤◌, ◌-◌, ◌/◌}
+use Prim.Native.Nat.{ℕ, ◌≤◌, ◌/◌}
 use mathlib.Core.Path.{◌≡◌}
 use mathlib.Core.Bool.{Bool}
 use lib.ListN.{length}
 use Rattle.lists.specs.First.{first}
 use Rattle.model.specs.Table.{Table, home, open_at}
 use Rattle.kinds.specs.Kinds.{of_row}
-use Rattle.kinds.specs.Code.{table_by, first_row}
+use Rattle.kinds.specs.Code.{table_in, first_row}
 use Rattle.loop_checks.specs.Rules.{shares_iterator}
 use Rattle.loop_checks.specs.Code.{kept_rows}
 use Rattle.loop_checks.proofs.iterators.first_shared.Given as goal
@@ -18,13 +18,9 @@ shared t r = shares_iterator t (home t r) r
 
 abbrev pub invariant-loop-row : goal.invariant-loop-row
 invariant-loop-row l =
-    (l.row ≤ l.counts.rows)
-    × (l.count ≤ 8)
+    (l.count ≤ 8)
     × (length l.opened ≡ 8)
-    × (kept_rows l.opened l.count ≡ open_at (table_by l.words l.counts) l.row)
-    × (let t = table_by l.words l.counts in first (of_row (shared t) t) 0 (length l.words / 4) ≡ first_row (shared t) t l.row)
+    × (kept_rows l.opened l.count ≡ open_at (table_in l.lines) l.row)
+    × (let t = table_in l.lines in first (of_row (shared t) t) 0 (length l.lines.words.now / 4) ≡ first_row (shared t) t l.row)
     × (l.since ≤ l.row)
-    × (l.since ≡ home (table_by l.words l.counts) l.row)
-
-abbrev pub decreases-loop-row : goal.decreases-loop-row
-decreases-loop-row l = l.counts.rows - l.row
+    × (l.since ≡ home (table_in l.lines) l.row)

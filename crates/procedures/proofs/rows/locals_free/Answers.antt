@@ -1,6 +1,5 @@
 -- `rows::locals_free` meets its contract: the locals passed are free.
 -- Assumes nothing.
-use borrow.Author.Rules.{rules}
 use native.Mathlib.Omega.{arith}
 use mathlib.Core.Path.{sym}
 use Rattle.procedures.proofs.RowLaws.{free_all, free_more, free-none, free-stop}
@@ -16,17 +15,15 @@ returns-then-is_marked-owner_of c =
 pub loop-i-preserved : goal.loop-i-preserved
 loop-i-preserved c =
     let a = c.args in
-    let at_head = c.loop-i in (
-      search rules,
-      free_more a.words.now a.owners.now a.a a.count a.first at_head.i at_head.invariant.1
-          (rw (← c.is_marked.ensures, ← c.owner_of.ensures) c.if-is_marked-owner_of.false),
-    )
+    let at_head = c.loop-i in
+    free_more a.words.now a.owners.now a.a a.count a.first at_head.i at_head.invariant
+    (rw (← c.is_marked.ensures, ← c.owner_of.ensures) c.if-is_marked-owner_of.false)
 
 pub returns : goal.returns
 returns c =
     let a = c.args in
     let at_head = c.loop-i in
-    sym (free_all a.words.now a.owners.now a.a a.count a.first at_head.i (omega arith) at_head.invariant.1)
+    sym (free_all a.words.now a.owners.now a.a a.count a.first at_head.i (omega arith) at_head.invariant)
 
 pub loop-i-init : goal.loop-i-init
-loop-i-init c = (search rules, free-none _ _ _ _ _)
+loop-i-init c = free-none _ _ _ _ _

@@ -1,21 +1,14 @@
--- `rows::rule_kept` meets its contract: the same cases by the same numbers.
+-- `rows::rule_kept` meets its contract: the locals of a 43 fit.
 -- Assumes nothing.
-use Rattle.lists.proofs.Flags.{flags}
-use Rattle.procedures.specs.Code.{rule_by}
+use native.Mathlib.Omega.{arith}
+use mathlib.Core.Path.{sym, ap, ◌∙◌}
+use borrow.Author.Tests.{eqb-true}
+use Rattle.model.specs.Table.{opens_procedure}
+use Rattle.model.proofs.ReduceLaws.{opens-43}
 use Rattle.procedures.proofs.rows.rule_kept.Goals as goal
 
-pub returns-in-43 : goal.returns-in-43
-unfolding rule_by
-returns-in-43 c = rw c.in-43.is c.opens_rightly.ensures
-
-pub returns-in-44 : goal.returns-in-44
-unfolding rule_by
-returns-in-44 c = rw c.in-44.is
-
-pub returns-in-45 : goal.returns-in-45
-unfolding rule_by
-returns-in-45 c = rw c.in-45.is c.calls_rightly.ensures
-
-pub returns-in_default : goal.returns-in_default
-unfolding rule_by
-returns-in_default c = search flags
+pub opens_rightly-requires : goal.opens_rightly-requires
+opens_rightly-requires c =
+    let e = c.from.ensures in
+    let is = rw c.in-Procedure.is at e in
+    (omega arith, c.requires.2 (eqb-true _ 43 (sym (opens-43 _) ∙ ap opens_procedure (sym is))))

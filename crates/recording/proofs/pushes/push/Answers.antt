@@ -4,7 +4,7 @@ use Rattle.recording.proofs.PushLaws.{push-in, push-out}
 use Rattle.recording.proofs.pushes.push.Goals as goal
 
 pub returns-then-at-out : goal.returns-then-at-out
-returns-then-at-out c = search push-in
+returns-then-at-out g c = search push-in
 
 pub returns : goal.returns
-returns c = search push-out
+returns g c = search push-out

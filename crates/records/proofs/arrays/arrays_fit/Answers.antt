@@ -1,10 +1,8 @@
 -- The arrays so far are in sequence, up to a cell.
 -- Assumes nothing.
 use native.Mathlib.Omega.{arith}
-use Prim.Native.Nat.{◌-◌, ◌*◌, ◌≤◌}
-use mathlib.Core.Path.{◌≡◌, refl, sym, ◌∙◌}
-use borrow.Author.Rules.{rules}
-use Rattle.records.proofs.ArrayLaws.{Laying, laying-many, laying-all, laying-next, laying-off, laying-done}
+use mathlib.Core.Path.{refl, sym, ◌∙◌}
+use Rattle.records.proofs.ArrayLaws.{laying-many, laying-all, laying-next, laying-off, laying-done}
 use Rattle.records.proofs.arrays.arrays_fit.Goals as goal
 
 pub returns-then-m-gt-ARRAYS : goal.returns-then-m-gt-ARRAYS
@@ -13,28 +11,27 @@ returns-then-m-gt-ARRAYS c = λ vs callers. let g = c.args in laying-many g.cell
 pub loop-i-init : goal.loop-i-init
 loop-i-init c =
     let g = c.args in
-    (omega arith, refl, omega arith, omega arith, laying-all g.cells.now g.f g.m (omega (arith, c.if-m-gt-ARRAYS.false)))
+    (refl, omega arith, omega arith, laying-all g.cells.now g.f g.m (omega (arith, c.if-m-gt-ARRAYS.false)))
 
 pub loop-i-preserved : goal.loop-i-preserved
 loop-i-preserved c =
     let g = c.args in
     let l = c.loop-i in (
-      omega arith,
+      l.invariant.0,
       l.invariant.1,
-      l.invariant.2,
       omega arith,
-      laying-next g.cells.now g.f g.m l.from l.i l.invariant.4 (omega arith)
-          c.size_for.ensures (sym c.array_fits.ensures ∙ c.if-array_fits.true),
+      laying-next g.cells.now g.f g.m l.from l.i l.invariant.3 (omega arith)
+          c.size_for.ensures (sym c.array_fits.ensures ∙ c.if-not-array_fits.false),
     )
 
-pub returns-else-array_fits : goal.returns-else-array_fits
-returns-else-array_fits c = λ vs callers.
+pub returns-then-not-array_fits : goal.returns-then-not-array_fits
+returns-then-not-array_fits c = λ vs callers.
     let g = c.args in
     let l = c.loop-i in
-    laying-off g.cells.now g.f g.m l.from l.i l.invariant.4 (omega arith) (sym c.array_fits.ensures ∙ c.if-array_fits.false)
+    laying-off g.cells.now g.f g.m l.from l.i l.invariant.3 (omega arith) (sym c.array_fits.ensures ∙ c.if-not-array_fits.true)
 
 pub returns : goal.returns
 returns c = λ vs callers.
     let g = c.args in
     let l = c.loop-i in
-    laying-done g.cells.now g.f g.m l.from l.i l.invariant.4 (omega arith)
+    laying-done g.cells.now g.f g.m l.from l.i l.invariant.3 (omega arith)

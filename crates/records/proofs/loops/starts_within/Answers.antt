@@ -1,19 +1,16 @@
 -- Those of the loops below are left.
 -- Assumes nothing.
 use native.Mathlib.Omega.{arith}
-use Prim.Native.Nat.{ℕ, ◌-◌}
-use mathlib.Core.Path.{◌≡◌, refl, ◌∙◌}
-use mathlib.Core.List.{List}
-use borrow.Author.Rules.{rules}
-use Rattle.calls.specs.Stack.{loops_of}
-use Rattle.records.specs.Record.{starts_within}
+use Prim.Native.Nat.{◌-◌}
+use mathlib.Core.Path.{◌∙◌}
 use Rattle.records.proofs.StandLaws.{starts-on, starts-off, starts_none}
 use Rattle.records.proofs.loops.starts_within.Goals as goal
 
 pub returns-then-word_or_zero : goal.returns-then-word_or_zero
 returns-then-word_or_zero c = λ rows.
     let l = c.loop-n in
-    starts-off rows _ _ l.n (l.n - 1) (omega arith) c.word_or_zero-in-loop-n.ensures c.word_or_zero.ensures c.if-word_or_zero.true
+    starts-off rows _ _ l.n (l.n - 1) (omega arith) c.word_or_zero-in-loop-n.ensures c.word_or_zero.ensures
+    (omega (arith, c.if-word_or_zero.true))
     ∙ l.invariant rows
 
 pub loop-n-preserved : goal.loop-n-preserved

@@ -15,11 +15,11 @@ unfolding candidate
 returns-in-1 c = search rules
 
 pub returns-in-2 : goal.returns-in-2
-returns-in-2 c = after_first _ _ _ (omega arith)
+returns-in-2 c = rw c.from-in-2.ensures (after_first _ _ _ (omega arith))
 
 pub returns-in-3 : goal.returns-in-3
 unfolding candidate
 returns-in-3 c = search rules
 
 pub returns-in_default : goal.returns-in_default
-returns-in_default c = past-both _ _ _ (omega arith)
+returns-in_default c = rw c.from-in_default.ensures (past-both _ _ _ (omega arith))

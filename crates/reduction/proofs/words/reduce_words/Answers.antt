@@ -10,16 +10,16 @@ use Rattle.reduction.proofs.words.reduce_words.Goals as goal
 
 pub loop-i-init : goal.loop-i-init
 unfolding tab
-loop-i-init c = (search rules, search rules, refl)
+loop-i-init c = (search rules, refl)
 
 pub loop-i-preserved : goal.loop-i-preserved
 loop-i-preserved c =
     let head = c.loop-i in
-    (search rules, simp length-set head.invariant.1, tab-more _ _ _ _ (omega arith) head.invariant.2 c.reduced_word.ensures)
+    (simp length-set head.invariant.0, tab-more _ _ _ _ (omega arith) head.invariant.1 c.reduced_word.ensures)
 
 pub returns : goal.returns
 unfolding reduce
 returns c =
     let head = c.loop-i in
     let stop : head.i ≡ length c.args.words.now = omega arith in
-    tab-all _ _ _ head.invariant.1 (rw stop at head.invariant.2)
+    tab-all _ _ _ head.invariant.0 (rw stop at head.invariant.1)

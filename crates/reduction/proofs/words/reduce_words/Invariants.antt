@@ -1,5 +1,4 @@
 -- The loop has written the reduction's words below i.
-use Prim.Native.Nat.{◌-◌, ◌≤◌}
 use mathlib.Core.Path.{◌≡◌}
 use lib.ListN.{length, take}
 use Rattle.lists.specs.Tab.{tab}
@@ -7,7 +6,4 @@ use Rattle.model.specs.Reduce.{reduced_word}
 use Rattle.reduction.proofs.words.reduce_words.Given as goal
 
 abbrev pub invariant-loop-i : goal.invariant-loop-i
-invariant-loop-i l = (l.i ≤ length l.words) × (length l.out ≡ length l.words) × (take l.i l.out ≡ tab l.i (reduced_word l.words))
-
-abbrev pub decreases-loop-i : goal.decreases-loop-i
-decreases-loop-i l = length l.words - l.i
+invariant-loop-i l = (length l.out ≡ length l.words) × (take l.i l.out ≡ tab l.i (reduced_word l.words))

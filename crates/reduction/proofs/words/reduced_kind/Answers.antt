@@ -4,42 +4,42 @@ use Rattle.lists.proofs.Flags.{flags}
 use Rattle.model.specs.Reduce.{reduced_kind}
 use Rattle.reduction.proofs.words.reduced_kind.Goals as goal
 
-pub returns-then-is_marked : goal.returns-then-is_marked
+pub returns-in-16 : goal.returns-in-16
 unfolding reduced_kind
-returns-then-is_marked c = search (flags, sym c.is_marked.ensures ∙ c.if-is_marked.true)
+returns-in-16 c = rw (c.in-16.is, sym c.if-is_marked.ensures)
 
-pub returns-then-kind-eq16 : goal.returns-then-kind-eq16
+pub returns-in-19 : goal.returns-in-19
 unfolding reduced_kind
-returns-then-kind-eq16 c = search (flags, sym c.is_marked.ensures ∙ c.if-is_marked.false)
+returns-in-19 c = rw c.in-19.is
 
-pub returns-then-kind-eq19 : goal.returns-then-kind-eq19
+pub returns-in-26 : goal.returns-in-26
 unfolding reduced_kind
-returns-then-kind-eq19 c = search flags
+returns-in-26 c = rw c.in-26.is
 
-pub returns-then-kind-eq26 : goal.returns-then-kind-eq26
+pub returns-in-34 : goal.returns-in-34
 unfolding reduced_kind
-returns-then-kind-eq26 c = search flags
+returns-in-34 c = rw c.in-34.is
 
-pub returns-then-kind-eq34 : goal.returns-then-kind-eq34
+pub returns-in-37 : goal.returns-in-37
 unfolding reduced_kind
-returns-then-kind-eq34 c = search flags
+returns-in-37 c = rw (c.in-37.is, sym c.if-is_marked-2.ensures)
 
-pub returns-then-is_marked-2 : goal.returns-then-is_marked-2
+pub returns-in-38 : goal.returns-in-38
 unfolding reduced_kind
-returns-then-is_marked-2 c = search (flags, sym c.is_marked-then-kind-eq37.ensures ∙ c.if-is_marked-2.true)
+returns-in-38 c = rw (c.in-38.is, sym c.if-is_marked-3.ensures)
 
-pub returns-then-kind-eq37 : goal.returns-then-kind-eq37
+pub returns-in_default : goal.returns-in_default
 unfolding reduced_kind
-returns-then-kind-eq37 c = search (flags, sym c.is_marked-then-kind-eq37.ensures ∙ c.if-is_marked-2.false)
+returns-in_default c = rw (c.in-16.is, sym c.if-is_marked.ensures)
 
-pub returns-then-is_marked-3 : goal.returns-then-is_marked-3
+pub returns-in_default-2 : goal.returns-in_default-2
 unfolding reduced_kind
-returns-then-is_marked-3 c = search (flags, sym c.is_marked-then-kind-eq38.ensures ∙ c.if-is_marked-3.true)
+returns-in_default-2 c = rw (c.in-37.is, sym c.if-is_marked-2.ensures)
 
-pub returns-then-kind-eq38 : goal.returns-then-kind-eq38
+pub returns-in_default-3 : goal.returns-in_default-3
 unfolding reduced_kind
-returns-then-kind-eq38 c = search (flags, sym c.is_marked-then-kind-eq38.ensures ∙ c.if-is_marked-3.false)
+returns-in_default-3 c = rw (c.in-38.is, sym c.if-is_marked-3.ensures)
 
-pub returns : goal.returns
+pub returns-in_default-4 : goal.returns-in_default-4
 unfolding reduced_kind
-returns c = search flags
+returns-in_default-4 c = let h = c.in_default in search flags

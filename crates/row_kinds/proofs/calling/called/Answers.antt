@@ -6,7 +6,6 @@ use mathlib.Core.Path.{◌∙◌}
 use borrow.Author.Tests.{le-leb, lt-leb}
 use Rattle.row_kinds.specs.CodeRows.{on_uint, called_of}
 use Rattle.row_kinds.proofs.PutLaws.{lost-uint}
-use borrow.Author.Rules.{rules}
 use Rattle.evaluators.proofs.OtherAnswers.{answer-no-uint}
 use Rattle.row_kinds.proofs.calling.called.Goals as goal
 

@@ -3,7 +3,6 @@
 use mathlib.Core.Path.{◌∙◌}
 use Rattle.row_kinds.specs.CodeRows.{on_bool}
 use Rattle.row_kinds.proofs.PutLaws.{lost-bool}
-use borrow.Author.Rules.{rules}
 use Rattle.evaluators.proofs.OtherAnswers.{answer-no-bool}
 use Rattle.row_kinds.proofs.conditions.tested.Goals as goal
 

@@ -2,7 +2,6 @@
 -- Assumes nothing.
 use borrow.Author.Tests.{lt-ltb, le-ltb}
 use Rattle.row_kinds.specs.CodeRows.{cell_gets}
-use borrow.Author.Rules.{rules}
 use Rattle.row_kinds.proofs.writes.cell_gets.Goals as goal
 
 pub returns-then-size-i : goal.returns-then-size-i

@@ -2,7 +2,6 @@
 -- Assumes nothing.
 use borrow.Author.Tests.{lt-ltb, le-ltb}
 use Rattle.row_kinds.specs.CodeRows.{place_gets}
-use borrow.Author.Rules.{rules}
 use Rattle.row_kinds.proofs.writes.place_gets.Goals as goal
 
 pub returns-then-len-p : goal.returns-then-len-p

@@ -1,7 +1,6 @@
 -- By whether the place is tracked.
 -- Assumes nothing.
 use Rattle.row_kinds.specs.CodeRows.{tracked_gets}
-use borrow.Author.Rules.{rules}
 use Rattle.row_kinds.proofs.writes.tracked_gets.Goals as goal
 
 pub returns-then-is_tracked : goal.returns-then-is_tracked

@@ -3,7 +3,6 @@
 use mathlib.Core.Path.{◌∙◌}
 use Rattle.row_kinds.specs.CodeRows.{on_uint}
 use Rattle.row_kinds.proofs.PutLaws.{lost-uint}
-use borrow.Author.Rules.{rules}
 use Rattle.evaluators.proofs.OtherAnswers.{answer-no-uint}
 use Rattle.row_variables.proofs.arrays.laid.Goals as goal
 

@@ -2,8 +2,6 @@
 -- Assumes nothing.
 use mathlib.Core.Path.{sym, ◌∙◌}
 use Rattle.row_kinds.specs.CodeRows.{lay_of}
-use Rattle.row_kinds.proofs.LayLaws.{room-both}
-use borrow.Author.Rules.{rules}
 use Rattle.row_variables.proofs.arrays.lay.Goals as goal
 
 pub returns-then-lacks_room : goal.returns-then-lacks_room

@@ -33,8 +33,8 @@ returns-in_default c =
 
 pub overflow_cast-result : goal.overflow_cast-result
 overflow_cast-result c =
-    let h = way-near c.args.own.now c.args.here c.args.row c.args.again c.requires.1 c.requires.2 c.way_out-x.ensures
-    c.in-At.is in
+    let h = way-near c.args.inputs.now.own.now c.args.inputs.now.machine.now.row c.args.row c.args.again c.requires.1 c.requires.2 c.way_out-x.ensures
+    c.in-Some.is in
     search rules
 
 pub returns-then-fits : goal.returns-then-fits
@@ -48,7 +48,7 @@ returns-then-fits c =
       c.if-fits.true,
       lt-leb _ _ c.if-from-upto.false,
       ← c.way_out-x.ensures,
-      c.in-At.is,
+      c.in-Some.is,
     )
 
 pub returns : goal.returns

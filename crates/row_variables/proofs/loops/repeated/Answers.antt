@@ -1,12 +1,11 @@
 -- The innermost loop, its start and 1, then the loop of its row by kind.
 -- Assumes nothing.
-use Prim.Native.Nat.{suc, ◌<◌, ◌-◌}
+use Prim.Native.Nat.{suc, ◌-◌}
 use native.Mathlib.Omega.{arith}
-use mathlib.Core.Path.{◌≡◌}
+use mathlib.Core.Path.{◌≡◌, sym}
 use mathlib.Core.Bool.{true, false}
-use lib.ListN.{get_or}
 use Rattle.machine.specs.CodeMoves.{columns}
-use Rattle.row_kinds.proofs.LoopLaws.{repeat-none, repeat-ends, repeat-loop, repeat-other, row-there, kind-read, kind-38, kind-42}
+use Rattle.row_kinds.proofs.LoopLaws.{no-loop, repeat-fits, repeat-none, repeat-ends, repeat-loop, repeat-other}
 use borrow.Author.Rules.{rules}
 use Rattle.evaluators.proofs.OtherAnswers.{answer-no-uint}
 use Rattle.row_variables.proofs.loops.repeated.Goals as goal
@@ -14,48 +13,68 @@ use Rattle.row_variables.proofs.loops.repeated.Goals as goal
 pub returns-then-open-eq0 : goal.returns-then-open-eq0
 returns-then-open-eq0 c a b k count stack bs fs ls hs cells =
     let g = c.args in
-    let m = columns g.here g.ns.now bs g.«open» g.loop_rows.now g.starts.now g.ends.now count fs ls hs in
-    repeat-none g.own.now stack g.list.now m cells a b k g.at c.if-open-eq0.true
+    let i = g.inputs.now in
+    let here = i.machine.now in
+    let m = columns here.row here.numbers bs here.«open» here.loop_rows here.starts here.ends count fs ls hs in
+    repeat-none i.own.now stack i.list.now m cells a b k g.at c.if-open-eq0.true
 
 pub returns-in_default : goal.returns-in_default
 returns-in_default c a b k count stack bs fs ls hs cells =
     let g = c.args in
-    let d = g.«open» - 1 in
-    let e : g.«open» ≡ suc d = omega (arith, c.if-open-eq0.false) in
-    let m = columns g.here g.ns.now bs g.«open» g.loop_rows.now g.starts.now g.ends.now count fs ls hs in
-    repeat-ends g.own.now stack g.list.now m cells a b k g.at d e _ c.next_start-x.ensures (answer-no-uint _ c.in_default.not-Uint)
+    let i = g.inputs.now in
+    let here = i.machine.now in
+    let m = columns here.row here.numbers bs here.«open» here.loop_rows here.starts here.ends count fs ls hs in
+    let d = m.«open» - 1 in
+    let e : m.«open» ≡ suc d = omega (arith, c.if-open-eq0.false) in
+    repeat-ends i.own.now stack i.list.now m cells a b k g.at d e _ c.next_start-x.ensures (answer-no-uint _ c.in_default.not-Uint)
     c.lost.ensures
 
-pub returns-in-38 : goal.returns-in-38
-returns-in-38 c a b k count stack bs fs ls hs cells =
+pub returns-in-Loop : goal.returns-in-Loop
+returns-in-Loop c a b k count stack bs fs ls hs cells =
     let g = c.args in
-    let d = g.«open» - 1 in
-    let e : g.«open» ≡ suc d = omega (arith, c.if-open-eq0.false) in
-    let m = columns g.here g.ns.now bs g.«open» g.loop_rows.now g.starts.now g.ends.now count fs ls hs in
-    repeat-loop g.own.now stack g.list.now m cells a b k g.at d e _
+    let i = g.inputs.now in
+    let here = i.machine.now in
+    let m = columns here.row here.numbers bs here.«open» here.loop_rows here.starts here.ends count fs ls hs in
+    let d = m.«open» - 1 in
+    let e : m.«open» ≡ suc d = omega (arith, c.if-open-eq0.false) in
+    repeat-loop i.own.now stack i.list.now m cells a b k g.at d e _
     c.next_start-x.ensures c.in-Uint.is
-    c.row_word-kind.ensures false (kind-38 c.in-38.is)
-    (c.loop_at.ensures.loops g.«open» count stack bs g.loop_rows.now g.starts.now g.ends.now fs ls hs cells
+    c.row_word-kind.ensures false (sym c.in-Loop.ensures)
+    (c.loop_at.ensures.loops m.«open» m.count stack m.bases m.loop_rows m.starts m.ends m.firsts m.lengths m.shapes cells
     c.requires.loop_rows c.requires.starts c.requires.ends)
 
-pub returns-in-42 : goal.returns-in-42
-returns-in-42 c a b k count stack bs fs ls hs cells =
+pub returns-in-ClassLoop : goal.returns-in-ClassLoop
+returns-in-ClassLoop c a b k count stack bs fs ls hs cells =
     let g = c.args in
-    let d = g.«open» - 1 in
-    let e : g.«open» ≡ suc d = omega (arith, c.if-open-eq0.false) in
-    let m = columns g.here g.ns.now bs g.«open» g.loop_rows.now g.starts.now g.ends.now count fs ls hs in
-    repeat-loop g.own.now stack g.list.now m cells a b k g.at d e _
+    let i = g.inputs.now in
+    let here = i.machine.now in
+    let m = columns here.row here.numbers bs here.«open» here.loop_rows here.starts here.ends count fs ls hs in
+    let d = m.«open» - 1 in
+    let e : m.«open» ≡ suc d = omega (arith, c.if-open-eq0.false) in
+    repeat-loop i.own.now stack i.list.now m cells a b k g.at d e _
     c.next_start-x.ensures c.in-Uint.is
-    c.row_word-kind.ensures true (kind-42 c.in-42.is)
-    (c.loop_at-in-42.ensures.loops g.«open» count stack bs g.loop_rows.now g.starts.now g.ends.now fs ls hs cells
+    c.row_word-kind.ensures true (sym c.in-ClassLoop.ensures)
+    (c.loop_at-in-ClassLoop.ensures.loops m.«open» m.count stack m.bases m.loop_rows m.starts m.ends m.firsts m.lengths m.shapes cells
     c.requires.loop_rows c.requires.starts c.requires.ends)
 
-pub returns-in_default-kind : goal.returns-in_default-kind
-returns-in_default-kind c a b k count stack bs fs ls hs cells =
+pub returns-in_default-from : goal.returns-in_default-from
+returns-in_default-from c a b k count stack bs fs ls hs cells =
     let g = c.args in
-    let d = g.«open» - 1 in
-    let e : g.«open» ≡ suc d = omega (arith, c.if-open-eq0.false) in
-    let m = columns g.here g.ns.now bs g.«open» g.loop_rows.now g.starts.now g.ends.now count fs ls hs in
-    repeat-other g.own.now stack g.list.now m cells a b k g.at d e _
+    let i = g.inputs.now in
+    let here = i.machine.now in
+    let m = columns here.row here.numbers bs here.«open» here.loop_rows here.starts here.ends count fs ls hs in
+    let d = m.«open» - 1 in
+    let e : m.«open» ≡ suc d = omega (arith, c.if-open-eq0.false) in
+    repeat-other i.own.now stack i.list.now m cells a b k g.at d e _
     c.next_start-x.ensures c.in-Uint.is c.row_word-kind.ensures
-    (search rules) (search rules)
+    (no-loop c.from.result _ c.in_default-from.not-Loop c.in_default-from.not-ClassLoop c.from.ensures)
+
+pub loop_at-requires : goal.loop_at-requires
+loop_at-requires c =
+    let i = c.args.inputs.now in
+    repeat-fits i.own.now i.machine.now c.requires (c.if-open-eq0.false) c.row_word-kind.ensures false (sym c.in-Loop.ensures)
+
+pub loop_at-requires-in-ClassLoop : goal.loop_at-requires-in-ClassLoop
+loop_at-requires-in-ClassLoop c =
+    let i = c.args.inputs.now in
+    repeat-fits i.own.now i.machine.now c.requires (c.if-open-eq0.false) c.row_word-kind.ensures true (sym c.in-ClassLoop.ensures)

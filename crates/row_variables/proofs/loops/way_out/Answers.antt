@@ -1,7 +1,6 @@
 -- By whether the row repeats the loop, and the row that closes it.
 -- Assumes nothing.
 use Rattle.row_kinds.proofs.LoopLaws.{way-again, way-past, way-found, way-lost}
-use borrow.Author.Rules.{rules}
 use Rattle.row_variables.proofs.loops.way_out.Goals as goal
 
 pub returns-then-again : goal.returns-then-again

@@ -2,7 +2,6 @@
 -- Assumes nothing.
 use mathlib.Core.Path.{sym, ◌∙◌}
 use Rattle.row_kinds.specs.CodeRows.{put_of}
-use borrow.Author.Rules.{rules}
 use Rattle.row_variables.proofs.values.put.Goals as goal
 
 pub returns-then-fits : goal.returns-then-fits

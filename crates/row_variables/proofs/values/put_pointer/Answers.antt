@@ -3,7 +3,6 @@
 use mathlib.Core.Path.{◌∙◌}
 use Rattle.row_kinds.specs.CodeRows.{on_pointer}
 use Rattle.row_kinds.proofs.PutLaws.{lost-pointer}
-use borrow.Author.Rules.{rules}
 use Rattle.evaluators.proofs.OtherAnswers.{answer-no-pointer}
 use Rattle.row_variables.proofs.values.put_pointer.Goals as goal
 

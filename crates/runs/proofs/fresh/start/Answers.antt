@@ -1,7 +1,6 @@
 -- By the fresh state, from which the run is.
 -- Assumes nothing.
 use Rattle.runs.proofs.LendLaws.{few-decls, ready-fresh, reports-fresh}
-use borrow.Author.Rules.{rules}
 use Rattle.runs.proofs.fresh.start.Goals as goal
 
 pub fresh-r-requires : goal.fresh-r-requires

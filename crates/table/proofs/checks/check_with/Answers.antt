@@ -3,96 +3,99 @@
 use Prim.Native.Nat.{ℕ}
 use mathlib.Core.Path.{sym, ◌∙◌}
 use mathlib.Core.List.{[], ◌∷◌}
-use Rattle.lists.specs.declared.Found.{Found}
+use Rattle.std.proofs.Common.{rules}
+use Rattle.std.proofs.lemmas.Result.{err_from_is_err_and}
+use Rattle.std.specs.Prelude.{Option}
+use Rattle.kinds.specs.Kinds.{machine_of}
+use Rattle.kinds.specs.Code.{table_in}
+use Rattle.table.specs.Checks.{breaks}
 use Rattle.table.specs.Code.{first_of}
-use Rattle.table.proofs.CheckLaws.{eleven, nested-of, none, pass, seventeen, sixteen, stop, ten}
+use Rattle.table.proofs.CheckLaws.{at_line, clean, eleven, goes, last, nested-of, seventeen, sixteen, stops, ten}
 use Rattle.table.proofs.checks.check_with.Goals as goal
 
-pub returns-in-At : goal.returns-in-At
-returns-in-At c =
+pub returns-in_err-over_lines : goal.returns-in_err-over_lines
+unfolding breaks
+returns-in_err-over_lines c =
     let a = c.args in
-    let f : ℕ → Found = λ k. first_of k a.reduced a.words.now a.counts in
-    sym (stop f 9 (10 ∷ 11 ∷ 12 ∷ 16 ∷ 17 ∷ []) _ (sym c.first_sense.ensures ∙ c.in-At.is))
+    let m = machine_of a.reduced in
+    let t = table_in a.lines in
+    let f : ℕ → Option ℕ = λ k. first_of k a.reduced a.lines.words.now a.lines.counts in
+    let p = err_from_is_err_and c.from_residual.result c.from_residual.ensures.1 in
+    rw (p.1, p.2)
+    (stops f 9 (10 ∷ 11 ∷ 12 ∷ 16 ∷ 17 ∷ []) _ (c.in_err-over_lines.ensures (breaks 9 m t) (search rules)))
 
-pub returns-in-At-first_deep : goal.returns-in-At-first_deep
-returns-in-At-first_deep c =
+pub returns-in_err-broken_at : goal.returns-in_err-broken_at
+unfolding breaks
+returns-in_err-broken_at c =
     let a = c.args in
-    let f : ℕ → Found = λ k. first_of k a.reduced a.words.now a.counts in
-    sym (
-    pass f 9 (10 ∷ 11 ∷ 12 ∷ 16 ∷ 17 ∷ []) (sym c.first_sense.ensures ∙ c.in_default.is)
-    ∙ stop f 10 (11 ∷ 12 ∷ 16 ∷ 17 ∷ []) _ (ten a.reduced a.words.now a.counts ∙ sym c.first_deep.ensures ∙ c.in-At-first_deep.is)
-    )
+    let m = machine_of a.reduced in
+    let t = table_in a.lines in
+    let f : ℕ → Option ℕ = λ k. first_of k a.reduced a.lines.words.now a.lines.counts in
+    let p = err_from_is_err_and c.from_residual-in_err-broken_at.result c.from_residual-in_err-broken_at.ensures.1 in
+    rw (p.1, p.2)
+    (stops f 10 (11 ∷ 12 ∷ 16 ∷ 17 ∷ []) _ (at_line 10 c.first_deep.ensures (ten a.reduced a.lines.words.now a.lines.counts) c.in_err-broken_at.ensures)
+    ∙ goes f 9 (10 ∷ 11 ∷ 12 ∷ 16 ∷ 17 ∷ []) (c.in_ok-over_lines.ensures (breaks 9 m t) (search rules)))
 
-pub returns-in-At-first_unnested : goal.returns-in-At-first_unnested
-returns-in-At-first_unnested c =
+pub returns-in_err-broken_at-2 : goal.returns-in_err-broken_at-2
+unfolding breaks
+returns-in_err-broken_at-2 c =
     let a = c.args in
-    let f : ℕ → Found = λ k. first_of k a.reduced a.words.now a.counts in
-    sym (
-    pass f 9 (10 ∷ 11 ∷ 12 ∷ 16 ∷ 17 ∷ []) (sym c.first_sense.ensures ∙ c.in_default.is)
-    ∙ pass f 10 (11 ∷ 12 ∷ 16 ∷ 17 ∷ [])
-    (ten a.reduced a.words.now a.counts ∙ sym c.first_deep.ensures ∙ c.in_default-first_deep.is)
-    ∙ stop f 11 (12 ∷ 16 ∷ 17 ∷ []) _ (eleven a.reduced a.words.now a.counts ∙ sym c.first_unnested.ensures ∙ c.in-At-first_unnested.is)
-    )
+    let m = machine_of a.reduced in
+    let t = table_in a.lines in
+    let f : ℕ → Option ℕ = λ k. first_of k a.reduced a.lines.words.now a.lines.counts in
+    let p = err_from_is_err_and c.from_residual-in_err-broken_at-2.result c.from_residual-in_err-broken_at-2.ensures.1 in
+    rw (p.1, p.2)
+    (stops f 11 (12 ∷ 16 ∷ 17 ∷ []) _ (at_line 11 c.first_unnested.ensures (eleven a.reduced a.lines.words.now a.lines.counts) c.in_err-broken_at-2.ensures)
+    ∙ goes f 10 (11 ∷ 12 ∷ 16 ∷ 17 ∷ []) (at_line 10 c.first_deep.ensures (ten a.reduced a.lines.words.now a.lines.counts) c.in_ok-broken_at.ensures)
+    ∙ goes f 9 (10 ∷ 11 ∷ 12 ∷ 16 ∷ 17 ∷ []) (c.in_ok-over_lines.ensures (breaks 9 m t) (search rules)))
 
-pub returns-in-At-first_sense : goal.returns-in-At-first_sense
-returns-in-At-first_sense c =
+pub returns-in_err-over_lines-2 : goal.returns-in_err-over_lines-2
+unfolding breaks
+returns-in_err-over_lines-2 c =
     let a = c.args in
-    let f : ℕ → Found = λ k. first_of k a.reduced a.words.now a.counts in
-    sym (
-    pass f 9 (10 ∷ 11 ∷ 12 ∷ 16 ∷ 17 ∷ []) (sym c.first_sense.ensures ∙ c.in_default.is)
-    ∙ pass f 10 (11 ∷ 12 ∷ 16 ∷ 17 ∷ [])
-    (ten a.reduced a.words.now a.counts ∙ sym c.first_deep.ensures ∙ c.in_default-first_deep.is)
-    ∙ pass f 11 (12 ∷ 16 ∷ 17 ∷ [])
-    (eleven a.reduced a.words.now a.counts ∙ sym c.first_unnested.ensures ∙ c.in_default-first_unnested.is)
-    ∙ stop f 12 (16 ∷ 17 ∷ []) _ (sym c.first_sense-2.ensures ∙ c.in-At-first_sense.is)
-    )
+    let m = machine_of a.reduced in
+    let t = table_in a.lines in
+    let f : ℕ → Option ℕ = λ k. first_of k a.reduced a.lines.words.now a.lines.counts in
+    let p = err_from_is_err_and c.from_residual-in_err-over_lines-2.result c.from_residual-in_err-over_lines-2.ensures.1 in
+    rw (p.1, p.2)
+    (stops f 12 (16 ∷ 17 ∷ []) _ (c.in_err-over_lines-2.ensures (breaks 12 m t) (search rules))
+    ∙ goes f 11 (12 ∷ 16 ∷ 17 ∷ []) (at_line 11 c.first_unnested.ensures (eleven a.reduced a.lines.words.now a.lines.counts) c.in_ok-broken_at-2.ensures)
+    ∙ goes f 10 (11 ∷ 12 ∷ 16 ∷ 17 ∷ []) (at_line 10 c.first_deep.ensures (ten a.reduced a.lines.words.now a.lines.counts) c.in_ok-broken_at.ensures)
+    ∙ goes f 9 (10 ∷ 11 ∷ 12 ∷ 16 ∷ 17 ∷ []) (c.in_ok-over_lines.ensures (breaks 9 m t) (search rules)))
+
+pub returns-in_err-broken_at-3 : goal.returns-in_err-broken_at-3
+unfolding breaks
+returns-in_err-broken_at-3 c =
+    let a = c.args in
+    let m = machine_of a.reduced in
+    let t = table_in a.lines in
+    let f : ℕ → Option ℕ = λ k. first_of k a.reduced a.lines.words.now a.lines.counts in
+    let p = err_from_is_err_and c.from_residual-in_err-broken_at-3.result c.from_residual-in_err-broken_at-3.ensures.1 in
+    rw (p.1, p.2)
+    (stops f 16 (17 ∷ []) _ (at_line 16 c.first_shared.ensures (sixteen a.reduced a.lines.words.now a.lines.counts) c.in_err-broken_at-3.ensures)
+    ∙ goes f 12 (16 ∷ 17 ∷ []) (c.in_ok-over_lines-2.ensures (breaks 12 m t) (search rules))
+    ∙ goes f 11 (12 ∷ 16 ∷ 17 ∷ []) (at_line 11 c.first_unnested.ensures (eleven a.reduced a.lines.words.now a.lines.counts) c.in_ok-broken_at-2.ensures)
+    ∙ goes f 10 (11 ∷ 12 ∷ 16 ∷ 17 ∷ []) (at_line 10 c.first_deep.ensures (ten a.reduced a.lines.words.now a.lines.counts) c.in_ok-broken_at.ensures)
+    ∙ goes f 9 (10 ∷ 11 ∷ 12 ∷ 16 ∷ 17 ∷ []) (c.in_ok-over_lines.ensures (breaks 9 m t) (search rules)))
+
+pub returns : goal.returns
+unfolding breaks
+returns c =
+    let a = c.args in
+    let m = machine_of a.reduced in
+    let t = table_in a.lines in
+    let f : ℕ → Option ℕ = λ k. first_of k a.reduced a.lines.words.now a.lines.counts in
+    last f 17 _ (at_line 17 c.first_misplaced.ensures (seventeen a.reduced a.lines.words.now a.lines.counts) c.broken_at-4.ensures)
+    ∙ goes f 16 (17 ∷ []) (at_line 16 c.first_shared.ensures (sixteen a.reduced a.lines.words.now a.lines.counts) c.in_ok-broken_at-3.ensures)
+    ∙ goes f 12 (16 ∷ 17 ∷ []) (c.in_ok-over_lines-2.ensures (breaks 12 m t) (search rules))
+    ∙ goes f 11 (12 ∷ 16 ∷ 17 ∷ []) (at_line 11 c.first_unnested.ensures (eleven a.reduced a.lines.words.now a.lines.counts) c.in_ok-broken_at-2.ensures)
+    ∙ goes f 10 (11 ∷ 12 ∷ 16 ∷ 17 ∷ []) (at_line 10 c.first_deep.ensures (ten a.reduced a.lines.words.now a.lines.counts) c.in_ok-broken_at.ensures)
+    ∙ goes f 9 (10 ∷ 11 ∷ 12 ∷ 16 ∷ 17 ∷ []) (c.in_ok-over_lines.ensures (breaks 9 m t) (search rules))
 
 pub first_shared-requires : goal.first_shared-requires
 first_shared-requires c =
+    let a = c.args in
     let laid = c.requires.in_sorts.0 in
-    (laid, nested-of c.args.words.now c.args.counts laid (sym c.first_unnested.ensures ∙ c.in_default-first_unnested.is))
-
-pub returns-in-At-first_shared : goal.returns-in-At-first_shared
-returns-in-At-first_shared c =
-    let a = c.args in
-    let f : ℕ → Found = λ k. first_of k a.reduced a.words.now a.counts in
-    sym (
-    pass f 9 (10 ∷ 11 ∷ 12 ∷ 16 ∷ 17 ∷ []) (sym c.first_sense.ensures ∙ c.in_default.is)
-    ∙ pass f 10 (11 ∷ 12 ∷ 16 ∷ 17 ∷ [])
-    (ten a.reduced a.words.now a.counts ∙ sym c.first_deep.ensures ∙ c.in_default-first_deep.is)
-    ∙ pass f 11 (12 ∷ 16 ∷ 17 ∷ [])
-    (eleven a.reduced a.words.now a.counts ∙ sym c.first_unnested.ensures ∙ c.in_default-first_unnested.is)
-    ∙ pass f 12 (16 ∷ 17 ∷ []) (sym c.first_sense-2.ensures ∙ c.in_default-first_sense.is)
-    ∙ stop f 16 (17 ∷ []) _ (sixteen a.reduced a.words.now a.counts ∙ sym c.first_shared.ensures ∙ c.in-At-first_shared.is)
-    )
-
-pub returns-in-At-first_misplaced : goal.returns-in-At-first_misplaced
-returns-in-At-first_misplaced c =
-    let a = c.args in
-    let f : ℕ → Found = λ k. first_of k a.reduced a.words.now a.counts in
-    sym (
-    pass f 9 (10 ∷ 11 ∷ 12 ∷ 16 ∷ 17 ∷ []) (sym c.first_sense.ensures ∙ c.in_default.is)
-    ∙ pass f 10 (11 ∷ 12 ∷ 16 ∷ 17 ∷ [])
-    (ten a.reduced a.words.now a.counts ∙ sym c.first_deep.ensures ∙ c.in_default-first_deep.is)
-    ∙ pass f 11 (12 ∷ 16 ∷ 17 ∷ [])
-    (eleven a.reduced a.words.now a.counts ∙ sym c.first_unnested.ensures ∙ c.in_default-first_unnested.is)
-    ∙ pass f 12 (16 ∷ 17 ∷ []) (sym c.first_sense-2.ensures ∙ c.in_default-first_sense.is)
-    ∙ pass f 16 (17 ∷ []) (sixteen a.reduced a.words.now a.counts ∙ sym c.first_shared.ensures ∙ c.in_default-first_shared.is)
-    ∙ stop f 17 [] _ (seventeen a.reduced a.words.now a.counts ∙ sym c.first_misplaced.ensures ∙ c.in-At-first_misplaced.is)
-    )
-
-pub returns : goal.returns
-returns c =
-    let a = c.args in
-    let f : ℕ → Found = λ k. first_of k a.reduced a.words.now a.counts in
-    sym (
-    pass f 9 (10 ∷ 11 ∷ 12 ∷ 16 ∷ 17 ∷ []) (sym c.first_sense.ensures ∙ c.in_default.is)
-    ∙ pass f 10 (11 ∷ 12 ∷ 16 ∷ 17 ∷ [])
-    (ten a.reduced a.words.now a.counts ∙ sym c.first_deep.ensures ∙ c.in_default-first_deep.is)
-    ∙ pass f 11 (12 ∷ 16 ∷ 17 ∷ [])
-    (eleven a.reduced a.words.now a.counts ∙ sym c.first_unnested.ensures ∙ c.in_default-first_unnested.is)
-    ∙ pass f 12 (16 ∷ 17 ∷ []) (sym c.first_sense-2.ensures ∙ c.in_default-first_sense.is)
-    ∙ pass f 16 (17 ∷ []) (sixteen a.reduced a.words.now a.counts ∙ sym c.first_shared.ensures ∙ c.in_default-first_shared.is)
-    ∙ pass f 17 [] (seventeen a.reduced a.words.now a.counts ∙ sym c.first_misplaced.ensures ∙ c.in_default-first_misplaced.is)
-    ∙ none f
-    )
+    let f : ℕ → Option ℕ = λ k. first_of k a.reduced a.lines.words.now a.lines.counts in
+    let none = clean f 11 (at_line 11 c.first_unnested.ensures (eleven a.reduced a.lines.words.now a.lines.counts) c.in_ok-broken_at-2.ensures) in
+    (laid, nested-of a.lines.words.now a.lines.counts laid (sym (eleven a.reduced a.lines.words.now a.lines.counts) ∙ none))

@@ -1,0 +1,273 @@
+// What each kind of line asks of its operands, their types and their marks, and how it nests.
+ghost use Rattle.std.specs.Prelude.{◌≡◌};
+ghost use Rattle.model.specs.Table.{declaration_roles, node_roles, row_roles, row_kind, node_kind, nest_of, opens_procedure};
+ghost use Rattle.model.specs.Accepted.{known, there, type_by, typed_node, node_suits, row_suits};
+ghost use Rattle.kinds.specs.Kinds.{machine_of, sort_number, sort_said, roles_of, roles_said, role_said, ty_said, node_said, row_said, nest_said};
+ghost use Rattle.kinds.specs.Kinds.{value_suits, of_operands, row_fits, typed_by, suits_mark};
+
+use crate::line_kind::{Kind, Node, Row, Ty};
+
+// A line's sort, by its kind: declarations stand before nodes, and nodes before rows.
+#[derive(Clone, Copy, PartialEq, Eq, PartialOrd, Ord)]
+pub enum Sort {
+    Declaration,
+    Node,
+    Row,
+}
+
+// What an operand is: unused, so that it is 0; a flag, 0 or 1; any number; a variable; or a node.
+#[derive(Clone, Copy, PartialEq, Eq)]
+pub enum Role {
+    Unused,
+    Flag,
+    Number,
+    Variable,
+    Node,
+}
+
+// The roles of a line's operands.
+#[derive(Clone, Copy)]
+pub struct Roles {
+    pub a: Role,
+    pub b: Role,
+    pub c: Role,
+}
+
+// Whether a row opens a loop, closes one, or neither.
+#[derive(Clone, Copy, PartialEq, Eq)]
+pub enum Nest {
+    Opens,
+    Closes,
+    Neither,
+}
+
+// Whether a plain or a reduced table may have the kind.
+#[tactic(auto, unfolding(model::specs::Accepted::known))]
+pub fn is_known(reduced: bool, k: u32) -> bool
+    ensures { result ≡ known (machine_of reduced) k }
+{
+    if reduced {
+        return ((1..=3).contains(&k) | (16..=29).contains(&k) | (32..=45).contains(&k))
+            & !((k == 19) | (k == 26) | (k == 34));
+    }
+    (1..=3).contains(&k) | (16..=26).contains(&k) | (32..=39).contains(&k) | (43..=45).contains(&k)
+}
+
+pub fn sort_of(kind: u32) -> Sort
+    ensures { sort_said result ≡ sort_number kind }
+{
+    match Kind::from(kind) {
+        Kind::Declaration(_) => Sort::Declaration,
+        Kind::Node(_) => Sort::Node,
+        Kind::Row(_) => Sort::Row,
+    }
+}
+
+fn three(a: Role, b: Role, c: Role) -> Roles
+    ensures { (result.a ≡ a) × (result.b ≡ b) × (result.c ≡ c) }
+{
+    Roles { a, b, c }
+}
+
+// The mark of a declaration is its operand a; a bool has none.
+#[tactic(auto, unfolding(model::specs::Table::declaration_roles, model::specs::Table::type_of))]
+fn declaration_roles(kind: u32) -> Roles
+    ensures { roles_said result ≡ declaration_roles kind }
+{
+    match Ty::from(kind) {
+        Ty::Bool => three(Role::Unused, Role::Unused, Role::Unused),
+        Ty::Uint | Ty::Pointer => three(Role::Flag, Role::Unused, Role::Unused),
+    }
+}
+
+#[tactic(auto, unfolding(model::specs::Table::node_roles))]
+fn node_roles(node: Node) -> Roles
+    ensures { roles_said result ≡ node_roles (node_said node) }
+{
+    match node {
+        Node::Variable | Node::ClassVariable => three(Role::Variable, Role::Unused, Role::Unused),
+        Node::UintConstant => three(Role::Number, Role::Unused, Role::Unused),
+        Node::BoolConstant => three(Role::Flag, Role::Unused, Role::Unused),
+        Node::Cell | Node::Valid | Node::ReducedCell | Node::ReducedValid => three(
+            Role::Node,
+            Role::Unused,
+            Role::Unused,
+        ),
+        Node::Plus | Node::Minus | Node::Less | Node::AtMost | Node::Equal => three(
+            Role::Node,
+            Role::Node,
+            Role::Unused,
+        ),
+        Node::Conditional => three(Role::Node, Role::Node, Role::Node),
+        Node::Unknown => three(Role::Unused, Role::Unused, Role::Unused),
+    }
+}
+
+// The locals of a procedure are a stretch of variables, told apart; the number of a procedure is neither a variable nor a node.
+#[tactic(auto, unfolding(model::specs::Table::row_roles))]
+fn row_roles(row: Row) -> Roles
+    ensures { roles_said result ≡ row_roles (row_said row) }
+{
+    match row {
+        Row::Assign | Row::Array | Row::ReducedArray => three(
+            Role::Variable,
+            Role::Node,
+            Role::Unused,
+        ),
+        Row::Store | Row::ReducedStore => three(Role::Node, Role::Node, Role::Unused),
+        Row::Assert | Row::Assume | Row::Return => three(Role::Node, Role::Unused, Role::Unused),
+        Row::Loop | Row::ClassLoop => three(Role::Variable, Role::Node, Role::Node),
+        Row::Procedure => three(Role::Number, Role::Number, Role::Unused),
+        Row::Call => three(Role::Number, Role::Node, Role::Variable),
+        Row::Skip | Row::LoopEnd | Row::Unknown => three(Role::Unused, Role::Unused, Role::Unused),
+    }
+}
+
+#[tactic(auto, unfolding(crate::specs::Kinds::roles_of))]
+pub fn roles_of(kind: u32) -> Roles
+    ensures { roles_said result ≡ roles_of kind }
+{
+    match Kind::from(kind) {
+        Kind::Declaration(_) => declaration_roles(kind),
+        Kind::Node(node) => node_roles(node),
+        Kind::Row(row) => row_roles(row),
+    }
+}
+
+// An unused operand is 0, a flag at most 1.
+pub fn suits(role: Role, x: u32) -> bool
+    ensures { result ≡ value_suits (role_said role) x }
+{
+    match role {
+        Role::Unused => x == 0,
+        Role::Flag => x <= 1,
+        Role::Number | Role::Variable | Role::Node => true,
+    }
+}
+
+// A variable is one of `vars`, a node is below `bound`.
+pub fn is_there(role: Role, vars: usize, bound: usize, x: u32) -> bool
+    ensures { result ≡ there (role_said role) vars bound x }
+{
+    let i = x as usize;
+    match role {
+        Role::Variable => i < vars,
+        Role::Node => i < bound,
+        Role::Unused | Role::Flag | Role::Number => true,
+    }
+}
+
+// Whether the types of the nodes a, b and c are as the node asks.
+fn node_fits(node: Node, a: Ty, b: Ty, c: Ty) -> bool
+    ensures { result ≡ typed_node (of_operands (ty_said a) (ty_said b) (ty_said c)) (node_said node) 0 1 2 }
+{
+    match node {
+        Node::Variable | Node::UintConstant | Node::BoolConstant | Node::ClassVariable => true,
+        Node::Cell | Node::Valid | Node::ReducedCell | Node::ReducedValid => a == Ty::Pointer,
+        Node::Plus | Node::Minus => (a != Ty::Bool) & (b == Ty::Uint),
+        Node::Less | Node::AtMost | Node::Equal => (a == Ty::Uint) & (b == Ty::Uint),
+        Node::Conditional => (a == Ty::Bool) & (b == c),
+        Node::Unknown => false,
+    }
+}
+
+// Whether the types of the variables a (v) and c (u) and of the nodes a, b and c are as the row asks. The locals of a procedure are not among them.
+fn row_fits(row: Row, v: Ty, u: Ty, a: Ty, b: Ty, c: Ty) -> bool
+    ensures { result ≡ row_fits (row_said row) (ty_said v) (ty_said u) (ty_said a) (ty_said b) (ty_said c) }
+{
+    match row {
+        Row::Skip | Row::LoopEnd | Row::Procedure => true,
+        Row::Assign => b == v,
+        Row::Store | Row::ReducedStore => (a == Ty::Pointer) & (b == Ty::Uint),
+        Row::Assert | Row::Assume => a == Ty::Bool,
+        Row::Array | Row::ReducedArray => (v == Ty::Pointer) & (b == Ty::Uint),
+        Row::Loop | Row::ClassLoop => (v == Ty::Uint) & ((b == Ty::Uint) & (c == Ty::Uint)),
+        Row::Return => a == Ty::Uint,
+        Row::Call => (b == Ty::Uint) & (u == Ty::Uint),
+        Row::Unknown => false,
+    }
+}
+
+// The same of a line, by its kind.
+#[tactic(auto, unfolding(crate::specs::Kinds::typed_by))]
+pub fn is_typed(kind: u32, v: Ty, u: Ty, a: Ty, b: Ty, c: Ty) -> bool
+    ensures { result ≡ typed_by kind (ty_said v) (ty_said u) (ty_said a) (ty_said b) (ty_said c) }
+{
+    match Kind::from(kind) {
+        Kind::Declaration(_) => false,
+        Kind::Node(node) => node_fits(node, a, b, c),
+        Kind::Row(row) => row_fits(row, v, u, a, b, c),
+    }
+}
+
+// The type that a node gives, from the types of the variable a (v) and of the nodes a and b.
+pub fn result_type(node: Node, v: Ty, a: Ty, b: Ty) -> Ty
+    ensures { ty_said result ≡ type_by (of_operands (ty_said v) (ty_said v) (ty_said v)) (node_said node) 0 1
+        (of_operands (ty_said a) (ty_said b) (ty_said b)) }
+{
+    match node {
+        Node::Variable | Node::ClassVariable => v,
+        Node::UintConstant | Node::Cell | Node::ReducedCell => Ty::Uint,
+        Node::Plus | Node::Minus => a,
+        Node::Conditional => b,
+        Node::BoolConstant
+        | Node::Less
+        | Node::AtMost
+        | Node::Equal
+        | Node::Valid
+        | Node::ReducedValid
+        | Node::Unknown => Ty::Bool,
+    }
+}
+
+fn node_suits(node: Node, reduced: bool, u: bool) -> bool
+    ensures { result ≡ node_suits reduced (node_said node) u }
+{
+    match node {
+        Node::Variable => !(reduced & u),
+        Node::ClassVariable => u,
+        _ => true,
+    }
+}
+
+fn row_suits(row: Row, reduced: bool, u: bool, p: bool) -> bool
+    ensures { result ≡ row_suits reduced (row_said row) u p }
+{
+    match row {
+        Row::Assign => !u,
+        Row::Array => !(reduced & p),
+        Row::Loop => !(reduced & u),
+        Row::ReducedArray => p,
+        Row::ClassLoop => u,
+        _ => true,
+    }
+}
+
+// Whether the mark of the variable that a line names suits its kind: it is a marked uint (u), or a marked pointer (p).
+#[tactic(auto, unfolding(crate::specs::Kinds::suits_mark))]
+pub fn suits_mark(kind: u32, reduced: bool, u: bool, p: bool) -> bool
+    ensures { result ≡ suits_mark kind reduced u p }
+{
+    match Kind::from(kind) {
+        Kind::Declaration(_) => true,
+        Kind::Node(node) => node_suits(node, reduced, u),
+        Kind::Row(row) => row_suits(row, reduced, u, p),
+    }
+}
+
+pub fn nest_of(kind: u32) -> Nest
+    ensures { nest_said result ≡ nest_of (row_kind kind) }
+{
+    match Row::from(kind) {
+        Row::Loop | Row::ClassLoop => Nest::Opens,
+        Row::LoopEnd => Nest::Closes,
+        _ => Nest::Neither,
+    }
+}
+
+// Whether a line opens a procedure.
+pub fn opens_procedure(kind: u32) -> bool
+    ensures { result ≡ opens_procedure (row_kind kind) }
+{
+    Row::from(kind) == Row::Procedure
+}
