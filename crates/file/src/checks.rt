@@ -17,7 +17,7 @@ fn wrong_length(n: usize) -> bool
     n % BLOCK != 0 || FILE_BYTES < n
 }
 
-// The check that block k must have: its first 127 words, folded by a sum that wraps.
+// The check that block k must have: its first 127 words, folded by a sum that wraps, which is a form that this project asks for.
 #[tactic(auto, using(lists::proofs::TabLaws::sum_more), unfolding(lists::specs::Tab::sum))]
 fn block_check(bytes: &[u8], k: usize) -> u32
     requires { k < blocks bytes.now }

@@ -41,7 +41,8 @@ pub enum Nest {
     Neither,
 }
 
-// Whether a plain or a reduced table may have the kind.
+// Whether a plain or a reduced table may have the kind. The kinds stand as words here, in ranges, as in the definition: by name they would be a
+// list of forty.
 #[tactic(auto, unfolding(model::specs::Accepted::known))]
 pub fn is_known(reduced: bool, k: u32) -> bool
     ensures { result ≡ known (machine_of reduced) k }

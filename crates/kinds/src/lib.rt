@@ -63,7 +63,7 @@ pub fn open_after(nest: Nest, count: usize) -> usize
     }
 }
 
-// Whether a variable is declared with the kind and is marked.
+// Whether a variable is declared with the kind and is marked. The kind is a word of a table: a `Ty` would leave out numbers that may be asked for.
 #[tactic(auto, unfolding(model::specs::Table::marked))]
 pub fn is_marked(words: &[u32], kind: u32, x: u32) -> bool
     ensures { result ≡ marked words.now kind x }

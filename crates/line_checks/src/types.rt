@@ -54,7 +54,8 @@ fn line_type(words: &[u32], types: &[Ty], line: usize, node: usize) -> Ty
 pub fn fill_types(lines: Lines, types: &mut [Ty])
     requires in_sorts { InSorts (table_in lines) }
     requires types_len { length types.old ≡ 1024 }
-    ensures { Types (table_in lines.entry) types.new lines.entry.counts.nodes }
+    ensures types { Types (table_in lines.entry) types.new lines.entry.counts.nodes }
+    ensures types_len_2 { length types.new ≡ 1024 }
 {
     for n in 0..lines.counts.nodes {
         types[n] = line_type(lines.words, types, lines.counts.decls + n, n);

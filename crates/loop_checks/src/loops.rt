@@ -22,7 +22,7 @@ fn ends_scan(nest: Nest, inner: usize) -> bool
 }
 
 // The row that closes the loop of a row, or the row count. For the crates above, once the checks have passed: it asks for as many lines as
-// the counts say, and for a row among them.
+// the counts say, and for a row among them. A labelled loop that yields the row is a form that this project asks for.
 pub fn matching_end(words: &[u32], counts: Counts, row: usize) -> usize
     requires { (4 * (counts.decls + counts.nodes + counts.rows) ≤ length words.now) × (row < counts.rows) }
     ensures { result ≡ matching_end (table_by words.now counts) row }

@@ -2,6 +2,7 @@
 -- Assumes nothing.
 use Prim.Native.Nat.{ℕ, ◌+◌, ◌*◌, ◌<◌, ◌≤◌}
 use native.Mathlib.Omega.{arith}
+use native.Mathlib.Decide.{ℕ_discrete}
 use native.Mathlib.Nat.{not-suc-le-zero, eq-or-lt_of_le}
 use mathlib.Core.Path.{◌≡◌, refl, sym, ◌∙◌}
 use mathlib.Core.Logic.{◌≢◌, ⊎_elim}
@@ -9,11 +10,13 @@ use mathlib.Core.Bool.{Bool, true, false}
 use mathlib.Core.List.{List}
 use lib.ListN.{length, get_or, set, length-set}
 use lib.Seq.{get_or-set_same, get_or-set_other}
+use lib.Dec.{eqb}
 use borrow.Author.Tests.{ne_eqb}
 use mir.Val.{bool_byte}
 use Rattle.std.specs.Prelude.{if◌then◌else◌}
 use Rattle.kinds.specs.Kinds.{machine_of}
 use Rattle.model.specs.Table.{type_of, marked, marked_uint}
+use Rattle.model.specs.Table.Ty.{bool, uint, pointer}
 use Rattle.model.specs.State.{classed}
 use Rattle.prepared.specs.declared.Frame.{Frame}
 use Rattle.prepared.specs.declared.Form.TheVariants.{Bool as FBool, Uint as FUint, Class as FClass, Pointer as FPointer}
@@ -25,6 +28,36 @@ use Rattle.prepared.specs.CodeOwn.{Formed}
 pub flag-number : (b : Bool) → bool_byte b ≡ (if b then 1 else 0)
 flag-number true = refl
 flag-number false = refl
+
+-- ---- the word of a declaration, by its type
+pub bool-is : (k : ℕ) → type_of k ≡ bool → k ≡ 1
+unfolding type_of
+bool-is k e = elim (ℕ_discrete k 1) [
+  | yes one ↦ one
+  | no other ↦ go (eqb k 2) (rw (ne_eqb k 1 other) at e)
+]
+  where
+    go : (b : Bool) → (if b then uint else pointer) ≡ bool → k ≡ 1
+    go true h = absurd (let z : ◌≡◌ {A = ℕ} 0 1 = cc in omega arith)
+    go false h = absurd (let z : ◌≡◌ {A = ℕ} 0 1 = cc in omega arith)
+
+pub uint-is : (k : ℕ) → type_of k ≡ uint → k ≡ 2
+unfolding type_of
+uint-is k e = elim (ℕ_discrete k 2) [
+  | yes two ↦ two
+  | no other ↦ go (eqb k 1) (rw (ne_eqb k 2 other) at e)
+]
+  where
+    go : (b : Bool) → (if b then bool else pointer) ≡ uint → k ≡ 2
+    go true h = absurd (let z : ◌≡◌ {A = ℕ} 0 1 = cc in omega arith)
+    go false h = absurd (let z : ◌≡◌ {A = ℕ} 0 1 = cc in omega arith)
+
+pub pointer-is : (k : ℕ) → type_of k ≡ pointer → (k ≢ 1) × (k ≢ 2)
+unfolding type_of
+pointer-is k e = (
+  λ one. let h : bool ≡ pointer = rw one at e in absurd (let z : ◌≡◌ {A = ℕ} 0 1 = cc in omega arith),
+  λ two. let h : uint ≡ pointer = rw two at e in absurd (let z : ◌≡◌ {A = ℕ} 0 1 = cc in omega arith),
+)
 
 -- ---- by the declaration
 module _ (t : List ℕ) (f : Frame) (a : ℕ) where

@@ -5,6 +5,7 @@ ghost use Rattle.prepared.specs.View.{form_in};
 ghost use Rattle.prepared.specs.Own.{own_form, number_of_form};
 
 use crate::{Form, Frame};
+use kinds::Ty;
 use lists::word_or_zero;
 
 // By the declaration of variable a.
@@ -14,18 +15,11 @@ pub fn form_of(t: &[u32], f: Frame, a: usize) -> Form
 {
     let kind = word_or_zero(t, 4 * a);
     let mark = word_or_zero(t, 4 * a + 1);
-    match kind {
-        1 => Form::Bool,
-        2 => {
-            if f.classes {
-                if mark == 1 {
-                    return Form::Class;
-                }
-                return Form::Uint;
-            }
-            Form::Uint
-        }
-        _ => Form::Pointer,
+    match Ty::from(kind) {
+        Ty::Bool => Form::Bool,
+        Ty::Uint if f.classes && mark == 1 => Form::Class,
+        Ty::Uint => Form::Uint,
+        Ty::Pointer => Form::Pointer,
     }
 }
 

@@ -19,7 +19,7 @@ mod rows; // rows.rt: check 17, row by row
 pub const PLACES: usize = 16;
 
 // Where the first sixteen procedures open, in words 0 to 15, the row count where there is none; and in word 16 + r the first row of what row r
-// belongs to, the row past the last among them. One pass over the rows.
+// belongs to, the row past the last among them. One pass over the rows. Who calls this has words and counts apart, so they are two parameters.
 pub fn map_procedures(words: &[u32], counts: Counts, map: &mut [u32])
     requires map_len { (length map.old ≡ map_size) × (counts.decls ≤ 34) × (counts.nodes ≤ 1024) × (counts.rows ≤ 256) }
     requires rows_in_bounds { 4 * (counts.decls + counts.nodes + counts.rows) ≤ length words.now }

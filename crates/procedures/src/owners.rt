@@ -27,7 +27,7 @@ fn claim(owners: &mut [u32], a: u32, count: u32, first: u32)
     }
 }
 
-// The owners of all variables, in one pass over the rows. For our crates above.
+// The owners of all variables, in one pass over the rows. For our crates above, which have words and counts apart.
 pub fn owners_of(words: &[u32], counts: Counts) -> [u32; 32]
     requires { (length words.now ≡ 4 * (counts.decls + counts.nodes + counts.rows)) × (counts.rows ≤ 256) }
     ensures { Owners (table_by words.now counts) result }

@@ -107,11 +107,7 @@ fn run_steps(
 fn before(list: &[u32], at: u64) -> u64
     ensures { (result ≤ length list.now) × (drop result list.now ≡ drop at list.now) }
 {
-    let n = list.len() as u64;
-    if at <= n {
-        return at;
-    }
-    n
+    at.min(list.len() as u64)
 }
 
 // A run from a record on, with the choices used. For the public runs, which see to what is required here.

@@ -14,7 +14,7 @@ use machine::{Machine, Record};
 use runs::Ran;
 use std::io::{Read, Write};
 use table::Refusal;
-use testing::{check_of, mixed, print, print_end, print_part};
+use testing::{check_of_words, mixed, print, print_end, print_part};
 use wire::size;
 
 const ROOM: usize = 262144;
@@ -173,7 +173,7 @@ fn print_answer<W: Write>(to: &mut W, answer: Result<Ran, Refusal>, t: &[u32], c
         Ok(ran) => print_ran(to, ran, t),
         Err(r) => testing::print_refusal(to, r),
     }
-    print_part(to, b" cells ", u64::from(check_of(cells)));
+    print_part(to, b" cells ", u64::from(check_of_words(cells)));
 }
 
 // Edits of a record and of the cells

@@ -9,7 +9,7 @@ use calls::DEPTH;
 use runs::Ran;
 use std::io::Write;
 use table::Refusal;
-use testing::{check_of, print, print_part};
+use testing::{check_of_words, print, print_part};
 
 const MOST: usize = 31;
 
@@ -54,7 +54,7 @@ fn print_ran<W: Write>(to: &mut W, ran: Ran, cells: &[u32]) {
     print_word(to, record.stack[DEPTH]);
     print(to, b" iterator");
     print_word(to, machine.numbers[0]);
-    print_part(to, b" cells ", u64::from(check_of(cells)));
+    print_part(to, b" cells ", u64::from(check_of_words(cells)));
     print(to, b":");
 }
 

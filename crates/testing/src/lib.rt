@@ -71,3 +71,17 @@ pub fn check_of<T: Copy + Into<u32>>(s: &[T]) -> u32
     }
     h
 }
+
+// ... of words.
+pub fn check_of_words(s: &[u32]) -> u32
+    ensures { result ≡ check_number s.now }
+{
+    check_of::<u32>(s)
+}
+
+// ... of bytes.
+pub fn check_of_bytes(s: &[u8]) -> u32
+    ensures { result ≡ check_number s.now }
+{
+    check_of::<u8>(s)
+}

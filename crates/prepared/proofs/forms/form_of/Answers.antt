@@ -1,26 +1,27 @@
--- By the kind, the machine and the mark.
+-- By the type, the machine and the mark.
 -- Assumes nothing.
-use mathlib.Core.Path.{sym, ◌∙◌}
-use Rattle.prepared.proofs.FormLaws.{form-bool, form-pointer, form-unmarked, form-plain, form-class}
-use native.Mathlib.Omega.{arith}
+use mathlib.Core.Path.{ap, sym, ◌∙◌}
+use Rattle.model.specs.Table.{type_of}
+use Rattle.prepared.proofs.FormLaws.{bool-is, uint-is, pointer-is, form-bool, form-pointer, form-unmarked, form-plain, form-class}
 use Rattle.prepared.proofs.forms.form_of.Goals as goal
 
-pub returns-then-mark-eq1 : goal.returns-then-mark-eq1
-returns-then-mark-eq1 c =
-    form-class _ _ _ (sym c.word_or_zero-kind.ensures ∙ c.in-2.is) c.if-f.true
+pub returns-in-Bool : goal.returns-in-Bool
+returns-in-Bool c = form-bool _ _ _ (bool-is _ (ap type_of (sym c.word_or_zero-kind.ensures) ∙ sym c.in-Bool.ensures))
+
+pub returns-in-Uint : goal.returns-in-Uint
+returns-in-Uint c =
+    form-class _ _ _ (uint-is _ (ap type_of (sym c.word_or_zero-kind.ensures) ∙ sym c.in-Uint.ensures)) c.if-f.true
     (sym c.word_or_zero-mark.ensures ∙ c.if-mark-eq1.true)
 
-pub returns-then-f : goal.returns-then-f
-returns-then-f c =
-    form-unmarked _ _ _ (sym c.word_or_zero-kind.ensures ∙ c.in-2.is)
+pub returns-in-Uint-2 : goal.returns-in-Uint-2
+returns-in-Uint-2 c =
+    form-unmarked _ _ _ (uint-is _ (ap type_of (sym c.word_or_zero-kind.ensures) ∙ sym c.in-Uint.ensures))
     (λ e. c.if-mark-eq1.false (c.word_or_zero-mark.ensures ∙ e))
 
-pub returns-in-1 : goal.returns-in-1
-returns-in-1 c = form-bool _ _ _ (sym c.word_or_zero-kind.ensures ∙ c.in-1.is)
+pub returns-in-Uint-2-2 : goal.returns-in-Uint-2-2
+returns-in-Uint-2-2 c = form-plain _ _ _ (uint-is _ (ap type_of (sym c.word_or_zero-kind.ensures) ∙ sym c.in-Uint.ensures)) c.if-f.false
 
-pub returns-else-f : goal.returns-else-f
-returns-else-f c = form-plain _ _ _ (sym c.word_or_zero-kind.ensures ∙ c.in-2.is) c.if-f.false
-
-pub returns-in_default : goal.returns-in_default
-returns-in_default c =
-    form-pointer _ _ _ (λ e. omega arith) (λ e. omega arith)
+pub returns-in-Pointer : goal.returns-in-Pointer
+returns-in-Pointer c =
+    let e = ap type_of (sym c.word_or_zero-kind.ensures) ∙ sym c.in-Pointer.ensures in
+    form-pointer _ _ _ (pointer-is _ e).0 (pointer-is _ e).1
