@@ -1,7 +1,7 @@
 -- Laws of recorded rows 34, 38 and 39: the numbers of a row's operands one after the other, then those of its own, and the place that the last
 -- part of a row keeps.
 -- Assumes nothing.
-use Prim.Native.Nat.{ℕ, suc, ◌+◌, ◌*◌}
+use Prim.Native.Nat.{ℕ, suc, ◌-◌, ◌+◌, ◌*◌}
 use native.Mathlib.Omega.{arith as numbers}
 use mathlib.Core.Path.{◌≡◌, refl, sym, ap, subst, ◌∙◌}
 use mathlib.Core.Logic.{◌≢◌}
@@ -48,8 +48,8 @@ use Rattle.row_kinds.specs.CodeRows.{lost_of, fits_in, size_for, cell_gets, plac
 use Rattle.row_kinds.proofs.PutLaws.{lends, works-same}
 use Rattle.row_kinds.proofs.WriteLaws.{works-by, store-first, store-second, store_both}
 use Rattle.calls.proofs.StackLaws.{loops-split}
-use Rattle.row_kinds.proofs.LoopLaws.{entry-loops, open-first, open-second, open-both, kind-read, loop-above, no-loop, row-there}
-use Rattle.row_kinds.proofs.LoopLaws.{repeat-none, repeat-ends, repeat-loop, repeat-other}
+use Rattle.row_kinds.proofs.LoopLaws.{entry-loops, open-first, open-second, open-both, kind-read, no-loop}
+use Rattle.row_kinds.proofs.LoopLaws.{repeat-fits, repeat-none, repeat-ends, repeat-loop, repeat-other}
 use Rattle.recording.specs.CodePushes.{Pushed, pushed, push_all}
 use Rattle.recording.specs.CodeRecords.{Plain, held_of, pair_of, ReachedBy, Records, Recorded}
 use Rattle.recording_rows.specs.CodeMoves.{ReachedMove, RowRecords}
@@ -123,20 +123,6 @@ any_place k i h = rw (drop-nil i) h
 works-anywhere : {own stack : List ℕ} {m : Machine} {cells : List ℕ} {z : Worked} (k : Work Move) (i j : ℕ) → Works own stack m cells [] z (k (drop i []))
     → Works own stack m cells [] z (k (drop j []))
 works-anywhere k i j h = works-same h (ap k (drop-nil i ∙ sym (drop-nil j)))
-
--- ---- what row 39 asks for, of the innermost of its open loops, is what entering that loop asks for
-pub repeat-fits : (own ns rows starts ends : List ℕ) (here d : ℕ) {n k : ℕ} → n ≡ suc d → k ≡ get_or own (4 * (34 + 1024 + get_or rows d 0) + 0) 0
-    → row_kind k ≡ loop
-    → RepeatFits own ns rows starts ends here n → LoopFits own ns here (get_or rows d 0) d
-repeat-fits own ns rows starts ends here d ed ek e f = let above = loop-above false e in record {
-  decls = f.decls;
-  rows = f.rows;
-  here = f.here;
-  row = row-there own (get_or rows d 0) f.words (kind-read own (get_or rows d 0) ek) (omega (numbers, above));
-  depth = omega (numbers, f.loops, ed);
-  numbers = f.numbers;
-  bools = f.bools;
-}
 
 module _ (own : List ℕ) (m : Machine) (cells held : List ℕ) (plain : Plain own) (a b c : ℕ) (before : List ℕ) where
   abbrev T : Table
@@ -274,14 +260,23 @@ module _ (own : List ℕ) (m : Machine) (cells held : List ℕ) (plain : Plain o
     }
 
     module _ {from i : ℕ} (ex : x ≡ AUint from i) {k : ℕ} (ek : k ≡ get_or own (4 * (34 + 1024 + row) + 0) 0) where
+      -- what entering it again asks for
+      inner-fits : RepeatFits own m.numbers m.loop_rows m.starts m.ends m.row m.«open» → row_kind k ≡ loop → LoopFits own m.numbers m.row row d
+      inner-fits f is =
+          let back : m.«open» - 1 ≡ d = omega (numbers, ed) in
+          let read : k ≡ get_or own (4 * (34 + 1024 + get_or m.loop_rows (m.«open» - 1) 0) + 0) 0
+          = subst (λ (j : ℕ). k ≡ get_or own (4 * (34 + 1024 + get_or m.loop_rows j 0) + 0) 0) (sym back) ek in
+          subst (λ (j : ℕ). LoopFits own m.numbers m.row (get_or m.loop_rows j 0) j) back
+          (repeat-fits own m f (λ z. omega (numbers, ed, z)) read false is)
+
       pub repeat-recorded : (last : List ℕ) (n : ℕ) {z : Worked} → RepeatFits own m.numbers m.loop_rows m.starts m.ends m.row m.«open»
           → row_kind k ≡ loop → pushed last n ≡ push_all (on_next from) (pushed before 0)
           → z ≡ entry_of own m.numbers m.row row false from end d true n → RowRecords own m cells held loop_end a b c z before last
-      repeat-recorded last n {z} f ek38 h e = record {
-        works = λ stack. repeat-loop own stack [] m cells a b c 0 d ed x px ex ek false ek38
+      repeat-recorded last n {z} f is h e = record {
+        works = λ stack. repeat-loop own stack [] m cells a b c 0 d ed x px ex ek false is
             (works-by (works-anywhere (loop_at (places_of own) T (outer own stack m cells d) row loop from end (give (suc m.row))) n i
             (entry-loops own stack m cells [] row from end d true n
-            (repeat-fits own m.numbers m.loop_rows m.starts m.ends m.row d ed ek ek38 f) f.loop_rows f.starts f.ends)) e);
+            (inner-fits f is) f.loop_rows f.starts f.ends)) e);
         numbers = λ stack. rw (← innermost stack, (gave-uint x before (pushed before 0) next-start ex).gave, e)
             (entry_kept last n h own m.numbers m.row row false from end d true);
       }

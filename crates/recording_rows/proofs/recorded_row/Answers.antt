@@ -12,7 +12,6 @@ use Rattle.recording_rows.specs.CodeMoves.{RowRecords, StepRecords}
 use Rattle.row_moves.proofs.StepLaws.{step-opens}
 use Rattle.recording_rows.proofs.RowLaws.{records-step, records-skip, records-none, records-assert, records-assume, records-array}
 use Rattle.recording_rows.proofs.RowLaws.{records-ends, records-returns, records-calls}
-use borrow.Author.Rules.{rules}
 use Rattle.recording_rows.proofs.recorded_row.Goals as goal
 use Rattle.recording_rows.proofs.recorded_row.Goals.{After-wide-c}
 
