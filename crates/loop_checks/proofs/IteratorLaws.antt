@@ -87,7 +87,7 @@ few-after neither n most h e l = omega arith
 -- ---- a row, with the rows of the loops open before it kept
 
 module _ (t : Table) (r : ℕ) (q : Nest) (e : q ≡ nest_at t r) where
-  at-opening : q ≡ opens → nest_at t r ≡ opens
+  pub at-opening : q ≡ opens → nest_at t r ≡ opens
   at-opening h = sym e ∙ h
 
   module _ (b : List ℕ) (n : ℕ) (k : kept_rows b n ≡ open_at t r) where
