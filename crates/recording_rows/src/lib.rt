@@ -161,7 +161,7 @@ fn recorded_row<'a>(inputs: &Inputs<'a>, held: &[u8; 16], out: &mut [u32], depth
         Row::Store => record_store(a, b, inputs, held, out),
         Row::Assert => tested(false, record_bool(a, 1024, 0, inputs, held, out)),
         Row::Assume => tested(true, record_bool(a, 1024, 0, inputs, held, out)),
-        Row::Array => laid(inputs, false, a, record_uint(b, 1024, 0, inputs, held, out)),
+        Row::Array => laid(inputs, inputs.cells.len(), false, a, record_uint(b, 1024, 0, inputs, held, out)),
         Row::Loop => record_loop(b, c, inputs, held, out),
         Row::LoopEnd => record_repeat(inputs, out),
         Row::Procedure => Worked::Moves(Move::Returns(0), 0),
