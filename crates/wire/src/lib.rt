@@ -179,3 +179,37 @@ pub fn head_of<R: Into<Refused>>(answer: Result<Ran, R>) -> [u32; 8]
         Err(r) => refused_head(r),
     }
 }
+
+#[cfg(test)]
+mod tests {
+    use super::*;
+    use table::Check;
+
+    // A refusal by its number and place.
+    fn head_by(answer: Result<Ran, Refused>) -> [u32; 8]
+        ensures { result ≡ head_of (λ r. r) answer }
+    {
+        head_of(answer)
+    }
+
+    // A refusal that a check gave.
+    fn checked_head(answer: Result<Ran, Refusal>) -> [u32; 8]
+        ensures { result ≡ head_of refused_as answer }
+    {
+        head_of(answer)
+    }
+
+    #[test]
+    fn refusals(rt: HostRuntime) {
+        let most = Refused {
+            number: 4294967295,
+            place: 4294967303,
+        };
+        assert_eq!(rt; head_by(Err(most)), [4294967295, 7, 0, 0, 0, 0, 0, 0]);
+        let last = Refusal {
+            check: Check::Procedures,
+            place: 5,
+        };
+        assert_eq!(rt; checked_head(Err(last)), [17, 5, 0, 0, 0, 0, 0, 0]);
+    }
+}
