@@ -2,6 +2,7 @@
 -- Assumes nothing.
 use Prim.Native.Nat.{ℕ}
 use mathlib.Core.Path.{◌≡◌, refl, sym, ap, ◌∙◌}
+use mathlib.Core.Logic.{◌⊎◌, ⊎_elim}
 use mathlib.Core.List.{List, [], ◌∷◌}
 use mathlib.Core.Bool.{Bool}
 use lib.ListN.{drop}
@@ -62,6 +63,12 @@ says_same h e = record { said = h.said ∙ e; typed = h.typed }
 
 pub is_same : {w : Ty} {l : List ℕ} {x z : Answer} {o : Out (Of w)} → Answers w l x o → x ≡ z → Answers w l z o
 is_same h e = rw e at h
+
+-- x is what one of two ways gave, each of which says o
+pub joined : {A A' : Type 0} {B : A → Type 0} {B' : A' → Type 0} {f : (a : A) → B a → Answer} {g : (a : A') → B' a → Answer} {w : Ty} {x : Answer}
+    {l : List ℕ} {o : Out (Of w)} → ((a : A) × (b : B a) × (x ≡ f a b)) ⊎ ((a : A') × (b : B' a) × (x ≡ g a b))
+    → ((a : A') (b : B' a) → Answers w l (g a b) o) → ((a : A) (b : B a) → Answers w l (f a b) o) → Answers w l x o
+joined came second first = ⊎_elim (λ c. is_same (first c.0 c.1) (sym c.2)) (λ c. is_same (second c.0 c.1) (sym c.2)) came
 
 -- ---- one after the other, as a name that laws fit by
 unfoldable pub followed : {A : Type 0} (w : Ty) → Out A → (A → Work (Of w)) → Out (Of w)

@@ -6,6 +6,7 @@ use mathlib.Core.List.{[], ◌∷◌}
 use mathlib.Core.Bool.{Bool}
 use types.Run.{OneOf, hit}
 use denote.Enum.Declared.{tag_of}
+use Rattle.machine.specs.declared.Failure.{Failure}
 use Rattle.evaluators.specs.declared.answers.Answer.{Answer}
 use Rattle.evaluators.specs.declared.answers.Answer.TheVariants.{Bool as ABool, Uint as AUint, Pointer as APointer, Not}
 use Rattle.evaluators.specs.contracts.answers.Answer.{the_type as answer}
@@ -27,3 +28,9 @@ answer-no-pointer (ABool b at) h = hit (0 ∷ 1 ∷ 3 ∷ []) 0 tt
 answer-no-pointer (AUint v at) h = hit (0 ∷ 1 ∷ 3 ∷ []) 1 tt
 answer-no-pointer (APointer r p at) h = absurd (h r p at refl)
 answer-no-pointer (Not f at) h = hit (0 ∷ 1 ∷ 3 ∷ []) 3 tt
+
+pub answer-no-failure : (x : Answer) → ((f : Failure) (at : ℕ) → x ≡ Not f at → ⊥) → OneOf (0 ∷ 1 ∷ 2 ∷ []) (tag_of answer x)
+answer-no-failure (ABool b at) h = hit (0 ∷ 1 ∷ 2 ∷ []) 0 tt
+answer-no-failure (AUint v at) h = hit (0 ∷ 1 ∷ 2 ∷ []) 1 tt
+answer-no-failure (APointer r p at) h = hit (0 ∷ 1 ∷ 2 ∷ []) 2 tt
+answer-no-failure (Not f at) h = absurd (h f at refl)

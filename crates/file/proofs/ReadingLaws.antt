@@ -31,6 +31,10 @@ none-of-five true b c d f e = absurd (true≢false e)
 none-of-five false true c d f e = absurd (true≢false e)
 none-of-five false false c d f e = let rest = none-of-three c d f e in (refl, refl, rest.0, rest.1, rest.2)
 
+-- a length that check 1 passes
+pub length-fits : (n : ℕ) → wrong_length n ≡ false → n ≤ 22016
+length-fits n e = ltb-false _ _ (none-of-three false (not (eqb (n % 512) 0)) (ltb 22016 n) e).2
+
 -- a block that check 3 passes, in a file of n lines
 pub record RightBlock (bs : List ℕ) (n k : ℕ) : Type 0 where
   pub number : word bs k 124 ≡ k
@@ -127,6 +131,10 @@ module _ (bs : List ℕ) (right : (k : ℕ) → k < blocks bs → RightBlock bs 
       by true e = (right 0 (ltb-true _ _ e)).most
       by false e = let none : blocks bs ≤ 0 = ltb-false _ _ e in omega (arith, lines-in-blocks)
 
+-- the same from what the search for a wrong block found
+pub lines_fit : (bs : List ℕ) → first (wrong_block bs (lines_in_all bs)) 0 (blocks bs) ≡ None → lines_in_all bs ≤ 1312
+lines_fit bs e = lines-most bs (right-all bs e)
+
 -- a check of all blocks refuses: what the code's answer says of it is the answer
 refuses : (found : Option ℕ) (number : ℕ) (e : Refusal) (rest : Read) → refused_as e ≡ refused_at_line found number Passes
     → read_of (Err e) ≡ refused_at_block number found rest
@@ -159,8 +167,8 @@ module _ (bs : List ℕ) (room : ℕ) where
         laid : first (wrong_block bs (lines_in_all bs)) 0 (blocks bs) ≡ None
         laid = rw all at (sym block-is ∙ clean (λ _. block) 3 blocks-pass)
 
-        pub lines_fit : n ≤ 1312
-        lines_fit = rw all (lines-most bs (right-all bs laid))
+        pub total_fits : n ≤ 1312
+        total_fits = rw all (lines_fit bs laid)
 
         pub wrong_in_room : room ≢ 5248 → Refused 14 0 ≡ read_answer bs room
         unfolding read_answer

@@ -3,12 +3,10 @@
 use Rattle.std.proofs.Common.{◌≡◌, ℕ, ◌≢◌, List, length, eq-eqb, ne_eqb}
 use Rattle.lists.specs.Tab.{padded}
 use Rattle.model.specs.State.MachineKind.{plain}
-use Rattle.std.specs.Prelude.{Err}
-use Rattle.table.specs.declared.verdict.Refusal.{Refusal}
-use Rattle.table.specs.Verdict.{refused_as}
-use Rattle.table.specs.Verdict.Verdict.{Passes}
+use Rattle.table.specs.Verdict.{Verdict}
+use Rattle.table.specs.Verdict.Verdict.{Passes, Refused}
 use Rattle.table.specs.Checks.{table_check}
-use Rattle.file.specs.Written.{Written, written_of}
+use Rattle.file.specs.Written.{Written}
 use Rattle.file.specs.Written.Written.{Bytes, Refused as NotWritten}
 use Rattle.file.specs.Layout.{file_bytes}
 use Rattle.file.specs.Writing.{write_check, write_answer, write_buffer}
@@ -18,9 +16,9 @@ module _ (w : List ℕ) (lent : List ℕ) where
   abbrev Answered : Written → List ℕ → Type 0
   Answered v out = (v ≡ write_answer w (length lent)) × (out ≡ write_buffer w lent)
 
-  pub by-table : (e : Refusal) → refused_as e ≡ table_check plain w → Answered (written_of (Err e)) lent
+  pub by-table : {v : Verdict} {n p : ℕ} → v ≡ table_check plain w → v ≡ Refused n p → Answered (NotWritten n p) lent
   unfolding write_check
-  by-table e h = (rw (← h), rw (← h))
+  by-table e h = (rw (← e, h), rw (← e, h))
 
   module _ (passes : Passes ≡ table_check plain w) where
     pub by_size : length lent ≢ 22016 → Answered (NotWritten 14 0) lent

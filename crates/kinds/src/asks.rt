@@ -1,11 +1,13 @@
 // What each kind of line asks of its operands, their types and their marks, and how it nests.
-ghost use Rattle.std.specs.Prelude.{◌≡◌};
+ghost use Rattle.std.specs.Prelude.{◌≡◌, ℕ};
+ghost use Rattle.model.specs.Table.{Ty as TyOf};
 ghost use Rattle.model.specs.Table.{declaration_roles, node_roles, row_roles, row_kind, node_kind, nest_of, opens_procedure};
-ghost use Rattle.model.specs.Accepted.{known, there, type_by, typed_node, node_suits, row_suits};
-ghost use Rattle.kinds.specs.Kinds.{machine_of, sort_number, sort_said, roles_of, roles_said, role_said, ty_said, node_said, row_said, nest_said};
-ghost use Rattle.kinds.specs.Kinds.{value_suits, of_operands, row_fits, typed_by, suits_mark};
+ghost use Rattle.model.specs.Accepted.{known, there, ty_number, type_by, node_suits, row_suits};
+ghost use Rattle.kinds.specs.Kinds.{machine_of, sort_number, sort_said, roles_of, roles_said, role_said, node_said, row_said, nest_said};
+ghost use Rattle.kinds.specs.Kinds.{value_suits, of_operands, typed_by, suits_mark};
+ghost use Rattle.kinds.specs.Code.{node_typing, row_typing, typed_case, typed_numbers, node_result, result_by};
 
-use crate::line_kind::{Kind, Node, Row, Ty};
+use crate::line_kind::{BOOL, Kind, Node, POINTER, Row, Ty, UINT};
 
 // A line's sort, by its kind: declarations stand before nodes, and nodes before rows.
 #[derive(Clone, Copy, PartialEq, Eq, PartialOrd, Ord)]
@@ -158,41 +160,46 @@ pub fn is_there(role: Role, vars: usize, bound: usize, x: u32) -> bool
     }
 }
 
-// Whether the types of the nodes a, b and c are as the node asks.
-fn node_fits(node: Node, a: Ty, b: Ty, c: Ty) -> bool
-    ensures { result ≡ typed_node (of_operands (ty_said a) (ty_said b) (ty_said c)) (node_said node) 0 1 2 }
+// Whether the numbers of the nodes a, b and c are those of types that the node asks.
+#[tactic(auto, unfolding(crate::specs::Code::typed_case))]
+fn node_fits(node: Node, a: u32, b: u32, c: u32) -> bool
+    ensures { (v u : ℕ) → result ≡ typed_case (node_typing (node_said node)) v u a b c }
 {
     match node {
         Node::Variable | Node::UintConstant | Node::BoolConstant | Node::ClassVariable => true,
-        Node::Cell | Node::Valid | Node::ReducedCell | Node::ReducedValid => a == Ty::Pointer,
-        Node::Plus | Node::Minus => (a != Ty::Bool) & (b == Ty::Uint),
-        Node::Less | Node::AtMost | Node::Equal => (a == Ty::Uint) & (b == Ty::Uint),
-        Node::Conditional => (a == Ty::Bool) & (b == c),
+        Node::Cell | Node::Valid | Node::ReducedCell | Node::ReducedValid => a == POINTER,
+        Node::Plus | Node::Minus => (a != BOOL) & (b == UINT),
+        Node::Less | Node::AtMost | Node::Equal => (a == UINT) & (b == UINT),
+        Node::Conditional => (a == BOOL) & (b == c),
         Node::Unknown => false,
     }
 }
 
-// Whether the types of the variables a (v) and c (u) and of the nodes a, b and c are as the row asks. The locals of a procedure are not among them.
-fn row_fits(row: Row, v: Ty, u: Ty, a: Ty, b: Ty, c: Ty) -> bool
-    ensures { result ≡ row_fits (row_said row) (ty_said v) (ty_said u) (ty_said a) (ty_said b) (ty_said c) }
+// Whether the numbers of the variables a (v) and c (u) and of the nodes a, b and c are those of types that the row asks. The locals of a procedure
+// are not among them.
+#[tactic(auto, unfolding(crate::specs::Code::typed_case))]
+fn row_fits(row: Row, v: u32, u: u32, a: u32, b: u32, c: u32) -> bool
+    ensures { result ≡ typed_case (row_typing (row_said row)) v u a b c }
 {
     match row {
         Row::Skip | Row::LoopEnd | Row::Procedure => true,
         Row::Assign => b == v,
-        Row::Store | Row::ReducedStore => (a == Ty::Pointer) & (b == Ty::Uint),
-        Row::Assert | Row::Assume => a == Ty::Bool,
-        Row::Array | Row::ReducedArray => (v == Ty::Pointer) & (b == Ty::Uint),
-        Row::Loop | Row::ClassLoop => (v == Ty::Uint) & ((b == Ty::Uint) & (c == Ty::Uint)),
-        Row::Return => a == Ty::Uint,
-        Row::Call => (b == Ty::Uint) & (u == Ty::Uint),
+        Row::Store | Row::ReducedStore => (a == POINTER) & (b == UINT),
+        Row::Assert | Row::Assume => a == BOOL,
+        Row::Array | Row::ReducedArray => (v == POINTER) & (b == UINT),
+        Row::Loop | Row::ClassLoop => (v == UINT) & ((b == UINT) & (c == UINT)),
+        Row::Return => a == UINT,
+        Row::Call => (b == UINT) & (u == UINT),
         Row::Unknown => false,
     }
 }
 
-// The same of a line, by its kind.
-#[tactic(auto, unfolding(crate::specs::Kinds::typed_by))]
-pub fn is_typed(kind: u32, v: Ty, u: Ty, a: Ty, b: Ty, c: Ty) -> bool
-    ensures { result ≡ typed_by kind (ty_said v) (ty_said u) (ty_said a) (ty_said b) (ty_said c) }
+// The same of a line, by its kind. Any numbers may be asked for: 0, say, for a node that there is none of.
+pub fn is_typed(kind: u32, v: u32, u: u32, a: u32, b: u32, c: u32) -> bool
+    ensures numbers { result ≡ typed_numbers kind v u a b c }
+    // Of the numbers of types it is what the model asks of the types.
+    ensures types { (tv tu ta tb tc : TyOf) → v ≡ ty_number tv → u ≡ ty_number tu → a ≡ ty_number ta → b ≡ ty_number tb → c ≡ ty_number tc
+        → result ≡ typed_by kind tv tu ta tb tc }
 {
     match Kind::from(kind) {
         Kind::Declaration(_) => false,
@@ -201,14 +208,16 @@ pub fn is_typed(kind: u32, v: Ty, u: Ty, a: Ty, b: Ty, c: Ty) -> bool
     }
 }
 
-// The type that a node gives, from the types of the variable a (v) and of the nodes a and b.
-pub fn result_type(node: Node, v: Ty, a: Ty, b: Ty) -> Ty
-    ensures { ty_said result ≡ type_by (of_operands (ty_said v) (ty_said v) (ty_said v)) (node_said node) 0 1
-        (of_operands (ty_said a) (ty_said b) (ty_said b)) }
+// The number of the type that a node gives, from those of the variable a (v) and of the nodes a and b, which may be any numbers.
+pub fn result_type(node: Node, v: u32, a: u32, b: u32) -> u32
+    ensures numbers { result ≡ result_by (node_result (node_said node)) v a b }
+    // Of the numbers of types it is that of the type which the model gives.
+    ensures types { (tv ta tb : TyOf) → v ≡ ty_number tv → a ≡ ty_number ta → b ≡ ty_number tb
+        → result ≡ ty_number (type_by (of_operands tv tv tv) (node_said node) 0 1 (of_operands ta tb tb)) }
 {
     match node {
         Node::Variable | Node::ClassVariable => v,
-        Node::UintConstant | Node::Cell | Node::ReducedCell => Ty::Uint,
+        Node::UintConstant | Node::Cell | Node::ReducedCell => UINT,
         Node::Plus | Node::Minus => a,
         Node::Conditional => b,
         Node::BoolConstant
@@ -217,7 +226,7 @@ pub fn result_type(node: Node, v: Ty, a: Ty, b: Ty) -> Ty
         | Node::Equal
         | Node::Valid
         | Node::ReducedValid
-        | Node::Unknown => Ty::Bool,
+        | Node::Unknown => BOOL,
     }
 }
 

@@ -16,7 +16,7 @@ pub use asks::{
     Nest, Role, Roles, Sort, is_known, is_there, is_typed, nest_of, opens_procedure, result_type,
     roles_of, sort_of, suits, suits_mark,
 };
-pub use line_kind::{Kind, Node, Row, Ty};
+pub use line_kind::{BOOL, Kind, Node, POINTER, Row, Ty, UINT};
 
 // How many declarations, nodes and rows a table has.
 #[derive(Clone, Copy)]

@@ -22,22 +22,20 @@ use Rattle.model.specs.Table.Row.{skip, assign, store, assert, assume, array, lo
 use Rattle.model.specs.Table.Row.{procedure, returns, call, no_row}
 use Rattle.model.specs.Table.Role.{unused, flag, number, a_variable, a_node}
 use Rattle.model.specs.State.{MachineKind}
-use Rattle.model.specs.Accepted.{there, all_there, locals_there, node_there, row_there, type_by, node_type, typed_node, node_typed, typed_row, row_typed}
+use Rattle.model.specs.Accepted.{there, all_there, locals_there, node_there, row_there, type_by, node_type, ty_number, typed_node, node_typed, typed_row, row_typed}
 use Rattle.model.specs.Accepted.{is_reduced, node_suits_mark, row_suits_mark}
 use Rattle.model.proofs.Homes.{opens-is}
 use Rattle.model.proofs.ReduceLaws.{opens-43}
-use Rattle.kinds.specs.declared.line_kind.Ty.{Ty as TyName}
-use Rattle.kinds.specs.declared.line_kind.Ty.TheVariants as ty
-use Rattle.kinds.specs.Kinds.{kind_at, machine_of, ty_said, of_operands, row_fits, typed_by, suits_mark}
-use Rattle.kinds.specs.Code.{InSorts, There, LocalsFit}
+use Rattle.kinds.specs.Kinds.{kind_at, machine_of, suits_mark}
+use Rattle.kinds.specs.Code.{typing, node_typing, row_typing, typed_case, node_result, result_by, InSorts, There, LocalsFit}
 use Rattle.kinds.proofs.LineLaws.{at-declaration, by-line, kept_more, locals-fit, node-line, node-low, not-declaration, row_line, three}
 use Rattle.line_checks.specs.Rules.{breaks9, breaks12}
-use Rattle.line_checks.specs.Code.{Types, kept_type, type_below, line_type, operands_typed, locals_uints, line_typed, line_suits}
+use Rattle.line_checks.specs.Code.{Types, kept_type, type_below, variable_type, line_type, operands_typed, locals_uints, line_typed, line_suits}
 
 -- ---- the type of a node
 
 result-by : (vars : ℕ → Ty) (n : Node) (a b : ℕ) (ty : ℕ → Ty)
-    → type_by vars n a b ty ≡ type_by (of_operands (vars a) (vars a) (vars a)) n 0 1 (of_operands (ty a) (ty b) (ty b))
+    → ty_number (type_by vars n a b ty) ≡ result_by (node_result n) (ty_number (vars a)) (ty_number (ty a)) (ty_number (ty b))
 result-by vars variable a b ty = refl
 result-by vars uint_constant a b ty = refl
 result-by vars bool_constant a b ty = refl
@@ -54,67 +52,68 @@ result-by vars reduced_cell a b ty = refl
 result-by vars reduced_valid a b ty = refl
 result-by vars no_node a b ty = refl
 
-module _ (t : Table) (types : List TyName) (n : ℕ) (known : Types t types n) where
-  below : (x : ℕ) → (if ltb x n then node_type t x else bool) ≡ type_below types n x
+module _ (t : Table) (types : List ℕ) (n : ℕ) (known : Types t types n) where
+  below : (x : ℕ) → ty_number (if ltb x n then node_type t x else bool) ≡ type_below types n x
   below x = go (ltb x n) refl
     where
-      go : (b : Bool) → ltb x n ≡ b → (if b then node_type t x else bool) ≡ (if b then kept_type types x else bool)
+      go : (b : Bool) → ltb x n ≡ b → ty_number (if b then node_type t x else bool) ≡ (if b then kept_type types x else 1)
       go true e = sym (known.right x (ltb-true x n e))
       go false e = refl
 
-  type-is : line_type t.words types (t.decls + n) n ≡ node_type t n
+  type-is : line_type t.words types (t.decls + n) n ≡ ty_number (node_type t n)
   unfolding node_type
   type-is = sym (
-      value-is (λ m ty. type_by (type_at t) (node_kind (node_at t m).kind) (node_at t m).a (node_at t m).b ty) bool n
+      ap ty_number (value-is (λ m ty. type_by (type_at t) (node_kind (node_at t m).kind) (node_at t m).a (node_at t m).b ty) bool n)
       ∙ result-by (type_at t) (node_kind (node_at t n).kind) (node_at t n).a (node_at t n).b (λ j. if ltb j n then node_type t j else bool)
       ∙ rw (below (node_at t n).a, below (node_at t n).b)
       )
 
   -- the types of the first n nodes, and that of node n put after them
-  pub types_more : (v : TyName) → n < length types → ty_said v ≡ line_type t.words types (t.decls + n) n → Types t (set types n v) (n + 1)
-  types_more v h e = record { right = kept_more ty.Bool (λ j x. ty_said x ≡ node_type t j) types n v h known.right (e ∙ type-is) }
+  pub types_more : (v : ℕ) → n < length types → v ≡ line_type t.words types (t.decls + n) n → Types t (set types n v) (n + 1)
+  types_more v h e = record { right = kept_more 0 (λ j x. x ≡ ty_number (node_type t j)) types n v h known.right (e ∙ type-is) }
 
 -- ---- 9: an operand that names a node has a type, and the buffer has it
 
-abbrev Given : Role → Ty → Ty → Type 0
+abbrev Given : Role → ℕ → ℕ → Type 0
 Given unused p q = Unit {0}
 Given flag p q = Unit {0}
 Given number p q = Unit {0}
 Given a_variable p q = Unit {0}
 Given a_node p q = p ≡ q
 
-given : (types : List TyName) (f : ℕ → Ty) (bound : ℕ) → ((j : ℕ) → j < bound → kept_type types j ≡ f j) → (r : Role) (vs x : ℕ)
-    → there r vs bound x ≡ true → Given r (f x) (kept_type types x)
+given : (types : List ℕ) (f : ℕ → ℕ) (bound : ℕ) → ((j : ℕ) → j < bound → kept_type types j ≡ f j) → (r : Role) (vs x : ℕ) → there r vs bound x ≡ true
+    → Given r (f x) (kept_type types x)
 given types f bound h unused vs x e = tt
 given types f bound h flag vs x e = tt
 given types f bound h number vs x e = tt
 given types f bound h a_variable vs x e = tt
 given types f bound h a_node vs x e = sym (h x (ltb-true x bound e))
 
-module _ (ty : ℕ → Ty) (a b c : ℕ) (x y z : Ty) where
-  typed-node : (n : Node) → Given (node_roles n).a (ty a) x → Given (node_roles n).b (ty b) y → Given (node_roles n).c (ty c) z
-      → typed_node ty n a b c ≡ typed_node (of_operands x y z) n 0 1 2
-  unfolding node_roles
-  typed-node variable p q r = refl
-  typed-node uint_constant p q r = refl
-  typed-node bool_constant p q r = refl
-  typed-node cell p q r = rw p
-  typed-node plus p q r = rw (p, q)
-  typed-node minus p q r = rw (p, q)
-  typed-node less p q r = rw (p, q)
-  typed-node at_most p q r = rw (p, q)
-  typed-node equal p q r = rw (p, q)
-  typed-node conditional p q r = rw (p, q, r)
-  typed-node valid p q r = rw p
-  typed-node class_variable p q r = refl
-  typed-node reduced_cell p q r = rw p
-  typed-node reduced_valid p q r = rw p
-  typed-node no_node p q r = refl
+module _ (ty : ℕ → Ty) (a b c : ℕ) (x y z : ℕ) where
+  typed-node : (v u : ℕ) (n : Node) → Given (node_roles n).a (ty_number (ty a)) x → Given (node_roles n).b (ty_number (ty b)) y
+      → Given (node_roles n).c (ty_number (ty c)) z
+      → typed_node ty n a b c ≡ typed_case (node_typing n) v u x y z
+  unfolding node_roles typed_case
+  typed-node v u variable p q r = refl
+  typed-node v u uint_constant p q r = refl
+  typed-node v u bool_constant p q r = refl
+  typed-node v u cell p q r = rw p
+  typed-node v u plus p q r = rw (p, q)
+  typed-node v u minus p q r = rw (p, q)
+  typed-node v u less p q r = rw (p, q)
+  typed-node v u at_most p q r = rw (p, q)
+  typed-node v u equal p q r = rw (p, q)
+  typed-node v u conditional p q r = rw (p, q, r)
+  typed-node v u valid p q r = rw p
+  typed-node v u class_variable p q r = refl
+  typed-node v u reduced_cell p q r = rw p
+  typed-node v u reduced_valid p q r = rw p
+  typed-node v u no_node p q r = refl
 
-  typed-row : (vars : ℕ → Ty) (n : Row) → opens_procedure n ≡ false
-      → Given (row_roles n).a (ty a) x → Given (row_roles n).b (ty b) y → Given (row_roles n).c (ty c) z
-      → typed_row vars ty n a b c ≡ row_fits n (vars a) (vars c) x y z
-  unfolding row_roles
+  typed-row : (vars : ℕ → Ty) (n : Row) → opens_procedure n ≡ false → Given (row_roles n).a (ty_number (ty a)) x → Given (row_roles n).b (ty_number (ty b)) y
+      → Given (row_roles n).c (ty_number (ty c)) z
+      → typed_row vars ty n a b c ≡ typed_case (row_typing n) (ty_number (vars a)) (ty_number (vars c)) x y z
+  unfolding row_roles typed_case
   typed-row vars skip o p q r = refl
   typed-row vars assign o p q r = rw q
   typed-row vars store o p q r = rw (p, q)
@@ -137,9 +136,9 @@ not-node k e =
     (not-declaration k (omega arith), rw (le-leb 16 k (omega arith), le-ltb k 32 high))
 
 module _ (t : Table) (laid : InSorts t) (i : ℕ) where
-  module _ (th : There t) (types : List TyName) (known : Types t types t.nodes) where
+  module _ (th : There t) (types : List ℕ) (known : Types t types t.nodes) where
     operands-node : t.decls ≤ i → i < t.decls + t.nodes → node_typed t (i - t.decls) ≡ operands_typed t.words types i
-    unfolding node_typed typed_by node_there
+    unfolding node_typed typing node_there
     operands-node l h =
         let w = line_at t.words i in
         let n = node_kind w.kind in
@@ -149,9 +148,10 @@ module _ (t : Table) (laid : InSorts t) (i : ℕ) where
         (there (node_roles n).b t.decls (i - t.decls) w.b)
         (there (node_roles n).c t.decls (i - t.decls) w.c)
         (rw (node-line t i l) at (th.nodes (i - t.decls) small)) in
-        let has = given types (node_type t) (i - t.decls) (λ j k. known.right j (omega arith)) in
-        rw (node-line t i l, not-declaration w.kind (node-low w.kind (laid.node i l h)).0, laid.node i l h) (
-        typed-node (node_type t) w.a w.b w.c (kept_type types w.a) (kept_type types w.b) (kept_type types w.c) n
+        let has = given types (λ j. ty_number (node_type t j)) (i - t.decls) (λ j k. known.right j (omega arith)) in
+        rw (node-line t i l, laid.node i l h) (
+        typed-node (node_type t) w.a w.b w.c (kept_type types w.a) (kept_type types w.b) (kept_type types w.c)
+        (variable_type t.words w.a) (variable_type t.words w.c) n
         (has (node_roles n).a t.decls w.a named.0)
         (has (node_roles n).b t.decls w.b named.1)
         (has (node_roles n).c t.decls w.c named.2)
@@ -165,7 +165,7 @@ module _ (t : Table) (laid : InSorts t) (i : ℕ) where
 
     operands-row : t.decls + t.nodes ≤ i → i < t.decls + t.nodes + t.rows → opens_procedure (row_kind (kind_at t i)) ≡ false
         → row_typed t (i - (t.decls + t.nodes)) ≡ operands_typed t.words types i
-    unfolding row_typed typed_by row_there
+    unfolding row_typed typing row_there
     operands-row l h o =
         let w = line_at t.words i in
         let n = row_kind w.kind in
@@ -177,8 +177,8 @@ module _ (t : Table) (laid : InSorts t) (i : ℕ) where
         (there (row_roles n).b t.decls t.nodes w.b)
         (there (row_roles n).c t.decls t.nodes w.c)
         All-there in
-        let has = given types (node_type t) t.nodes known.right in
-        rw (row_line t i l, (not-node w.kind (laid.row i l h)).0, (not-node w.kind (laid.row i l h)).1) (
+        let has = given types (λ j. ty_number (node_type t j)) t.nodes known.right in
+        rw (row_line t i l, (not-node w.kind (laid.row i l h)).1) (
         typed-row (node_type t) w.a w.b w.c (kept_type types w.a) (kept_type types w.b) (kept_type types w.c) (type_at t) n o
         (has (row_roles n).a t.decls w.a named.0)
         (has (row_roles n).b t.decls w.b named.1)

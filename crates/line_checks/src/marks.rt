@@ -5,11 +5,7 @@ ghost use Rattle.kinds.specs.Code.{table_in, InSorts};
 ghost use Rattle.line_checks.specs.Rules.{breaks12};
 ghost use Rattle.line_checks.specs.Code.{line_suits};
 
-use kinds::{Lines, is_marked, suits_mark};
-
-const UINT: u32 = 2;
-
-const POINTER: u32 = 3;
+use kinds::{Lines, POINTER, UINT, is_marked, suits_mark};
 
 fn line_suits(words: &[u32], reduced: bool, line: usize) -> bool
     requires { 4 * line + 3 < length words.now }

@@ -11,7 +11,8 @@ pub fn word_or_zero(words: &[u32], i: usize) -> u32
     words.get(i).copied().unwrap_or(0)
 }
 
-// The first of the numbers below n at which a test holds.
+// The first of the numbers below n at which a test holds. For our crates above: all that is required is that the closure may be called for each
+// number below n.
 pub fn first_where<F: Fn(usize) -> bool>(n: usize, holds: F) -> Option<usize>
     requires { (i : ℕ) → i < n → F.pre holds i }
     ensures { (test : ℕ → Bool) → ((i : ℕ) (b : Bool) → i < n → F.post holds i b → b ≡ test i) → result ≡ first test 0 n }

@@ -44,6 +44,11 @@ kept-slice b n l =
     let e : length (take n b) ≡ n = omega (arith, length-take n b) in
     rw e (kept-first b n n (omega arith))
 
+-- a test of the rows that a slice of the buffer has, where its length is the number of open loops
+pub any-slice : (f : ℕ → Bool) {x : Bool} {m : ℕ} (b : List ℕ) (n : ℕ) → x ≡ any f (kept_rows (take m b) (length (take m b))) → m ≡ n → n ≤ length b
+    → x ≡ any f (kept_rows b n)
+any-slice f b n e q l = rw q at e ∙ ap (any f) (kept-slice b n l)
+
 -- one more, and one fewer
 kept_more : (b : List ℕ) (n v : ℕ) → n < length b → kept_rows (set b n v) (n + 1) ≡ v ∷ kept_rows b n
 unfolding kept_rows
@@ -87,7 +92,7 @@ few-after neither n most h e l = omega arith
 -- ---- a row, with the rows of the loops open before it kept
 
 module _ (t : Table) (r : ℕ) (q : Nest) (e : q ≡ nest_at t r) where
-  at-opening : q ≡ opens → nest_at t r ≡ opens
+  pub at-opening : q ≡ opens → nest_at t r ≡ opens
   at-opening h = sym e ∙ h
 
   module _ (b : List ℕ) (n : ℕ) (k : kept_rows b n ≡ open_at t r) where

@@ -24,7 +24,7 @@ pub fn form_of(t: &[u32], f: Frame, a: usize) -> Form
 }
 
 // The number of a form, for the copy, which is words: 1 bool, 2 uint, 3 pointer, 4 class.
-pub(crate) fn number_of(form: Form) -> u32
+pub fn number_of(form: Form) -> u32
     ensures { result ≡ number_of_form form }
 {
     match form {

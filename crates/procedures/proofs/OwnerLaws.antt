@@ -1,6 +1,6 @@
 -- Whose local a variable is, by the rows 43 before a row.
 -- Assumes nothing.
-use Prim.Native.Nat.{ℕ, zero, suc, ◌+◌, ◌<◌}
+use Prim.Native.Nat.{ℕ, zero, suc, ◌+◌, ◌<◌, ◌≤◌}
 use native.Mathlib.Omega.{arith}
 use native.Mathlib.Numerals.{add-one}
 use mathlib.Core.Path.{◌≡◌, refl, sym, ap, ◌∙◌}
@@ -13,6 +13,7 @@ use Rattle.std.specs.Prelude.{if◌then◌else◌}
 use Rattle.lists.specs.First.{walk}
 use Rattle.model.specs.Table.{Table, is_opening, locals_of, row_at, within}
 use Rattle.model.specs.Procedures.{owner}
+use Rattle.model.proofs.Homes.{owner-within}
 use Rattle.procedures.specs.Code.{claimed, Claimed, Owners}
 
 -- the number after the first of n numbers from i on at which a test holds, or 0; one more of them
@@ -68,3 +69,11 @@ module _ (t : Table) where
   pub owners-all : (owners : List ℕ) → OwnersBefore owners t.rows → Owners t owners
   unfolding owner
   owners-all owners o = record { right = o.right }
+
+  -- no owner is past the rows
+  pub owner-low : (v : ℕ) → owner t v ≤ t.rows
+  owner-low v = go (owner t v) refl
+    where
+      go : (o : ℕ) → owner t v ≡ o → o ≤ t.rows
+      go zero e = omega arith
+      go (suc o) e = (owner-within t v o e).0

@@ -7,18 +7,19 @@ use mathlib.Core.Path.{◌≡◌, refl, sym, ap, ◌∙◌}
 use mathlib.Core.Bool.{Bool, true, false, not, ◌&&◌, ◌||◌, false≢true, true≢false}
 use mathlib.Core.List.{List}
 use lib.ListN.{get_or}
-use lib.Dec.{ltb, eqb}
-use borrow.Author.Tests.{eqb-true}
+use lib.Dec.{ltb, leb, eqb}
+use borrow.Author.Tests.{eqb-true, leb-true}
+use Rattle.lists.proofs.BoolLaws.{and_left}
 use Rattle.lists.specs.Tab.{all}
 use Rattle.lists.proofs.TabLaws.{all_more, all-stop}
-use Rattle.model.specs.Table.{Table, Row, row_kind, row_at, home, opening, open_at, opens_procedure, marked, marked_uint}
+use Rattle.model.specs.Table.{Table, Row, between, row_kind, row_at, home, opening, open_at, opens_procedure, marked, marked_uint}
 use Rattle.model.specs.Table.Row.{skip, assign, store, assert, assume, array, loop, loop_end, reduced_store, reduced_array, class_loop}
 use Rattle.model.specs.Table.Row.{procedure, returns, call, no_row}
 use Rattle.model.specs.Procedures.{opened_before, owner, allowed, opens_rightly, procedure_rule, keeps_procedures}
 use Rattle.model.proofs.ReduceLaws.{opens-43}
 use Rattle.model.proofs.UsesLaws.{uses-right}
 use Rattle.kinds.specs.Code.{InSorts, There}
-use Rattle.kinds.proofs.LineLaws.{home-more, home-none, locals-fit, none-open, open_more}
+use Rattle.kinds.proofs.LineLaws.{home-more, home-none, locals-fit, none-open, open_more, three}
 use Rattle.procedures.specs.declared.rows.Met.{Met}
 use Rattle.procedures.specs.declared.uses.Uses.{Uses as UsesName}
 use Rattle.procedures.specs.Code.{line_by, locals_free, opens_by, rule_for, rule_by, Owners, Summaries, MetBefore, met_after}
@@ -80,6 +81,12 @@ opens-else true true true l e = absurd (true≢false e)
 opens-else true true false l e = refl
 opens-else true false c l e = refl
 opens-else false b c l e = refl
+
+-- a 43 whose count of locals is in order lists some
+pub some-locals : (a b : Bool) (n : ℕ) → (a && (b && between 1 4 n)) ≡ true → n ≡ 0 → ⊥
+some-locals a b n e z =
+    let p = three a b (between 1 4 n) e in
+    omega (arith, leb-true 1 n (and_left (leb 1 n) (leb n 4) p.2))
 
 same-all : (n : ℕ) (f g : ℕ → Bool) → ((i : ℕ) → i < n → f i ≡ g i) → all n f ≡ all n g
 unfolding all

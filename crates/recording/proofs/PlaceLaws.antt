@@ -50,7 +50,7 @@ over ds stuck = stuck
 pub record Still {A : Type 0} (m : Work A) : Type 0 where
   pub same : (cs ds : List ℕ) → m ds ≡ over ds (m cs)
 
-still-left : {A : Type 0} {m : Work A} → Still m → (cs : List ℕ) → left_by cs (m cs) ≡ cs
+pub still-left : {A : Type 0} {m : Work A} → Still m → (cs : List ℕ) → left_by cs (m cs) ≡ cs
 still-left {A} {m} h cs = ap (left_by cs) (h.same cs cs) ∙ go (m cs)
   where
     go : (o : Out A) → left_by cs (over cs o) ≡ cs

@@ -6,13 +6,12 @@ use native.Mathlib.Numerals.{add-one}
 use mathlib.Core.Path.{◌≡◌, refl, sym, ap, ◌∙◌, subst}
 use mathlib.Core.Logic.{◌≢◌}
 use mathlib.Core.List.{List, [], ◌∷◌}
-use mathlib.Core.Bool.{Bool, true, false, not, ◌&&◌, false≢true}
+use mathlib.Core.Bool.{Bool, true, false, ◌&&◌, false≢true}
 use lib.ListN.{length, get_or, set, drop}
 use lib.Dec.{ltb, leb, eqb}
 use borrow.Author.Tests.{ltb-true, ltb-false, leb-false, lt-ltb, le-ltb, eqb-true, ne_eqb}
 use types.Run.{OneOf, miss}
 use denote.Enum.Declared.{tag_of}
-use denote.Enum.Bare.{sameb}
 use Rattle.std.specs.Prelude.{if◌then◌else◌}
 use Rattle.model.specs.Table.{Ty, type_of, type_at}
 use Rattle.model.specs.Table.Ty.{bool, uint, pointer}
@@ -25,11 +24,10 @@ use Rattle.model.specs.Eval.{Of, Ptr, ptr, value}
 use Rattle.model.specs.Step.{Move, past, with_var, set_var, row_rule}
 use Rattle.model.specs.Step.End.{assert_false, assume_false}
 use Rattle.model.specs.Step.Move.{to, stop}
-use Rattle.prepared.specs.contracts.Form.{the_type as form}
 use Rattle.prepared.specs.declared.Form.{Form}
 use Rattle.prepared.specs.declared.Form.TheVariants.{Bool as FBool, Uint as FUint, Class as FClass, Pointer as FPointer}
 use Rattle.prepared.specs.View.{by_form}
-use Rattle.prepared.specs.Own.{places_of, decls_of, number_of_form, own_form, own_table, own_vars}
+use Rattle.prepared.specs.Own.{places_of, decls_of, own_form, own_table, own_vars}
 use Rattle.prepared.proofs.VarLaws.{vars-value, vars-number}
 use Rattle.evaluators.specs.contracts.answers.Answer.{the_type as answer}
 use Rattle.machine.specs.declared.Failure.{Failure}
@@ -50,6 +48,12 @@ use Rattle.row_kinds.specs.CodeRows.{lost_of, on_bool, on_uint, on_pointer, held
 use Rattle.row_kinds.specs.CodeRows.{iter_form}
 
 -- ---- answers by their tags: a value of the type that a row takes, or a row that loses its operand
+pub lost-value : (x : Answer) → OneOf (0 ∷ 1 ∷ 2 ∷ []) (tag_of answer x) → Not Stuck 0 ≡ lost_of x
+lost-value (ABool b at) h = refl
+lost-value (AUint x at) h = refl
+lost-value (APointer r p at) h = refl
+lost-value (NoValue why at) h = absurd (miss (0 ∷ 1 ∷ 2 ∷ []) 3 tt h)
+
 pub lost-bool : (k : Bool → ℕ → Worked) (x : Answer) → OneOf (1 ∷ 2 ∷ 3 ∷ []) (tag_of answer x) → lost_of x ≡ on_bool k x
 unfolding on_bool
 lost-bool k (ABool b at) h = absurd (miss (1 ∷ 2 ∷ 3 ∷ []) 0 tt h)
@@ -150,42 +154,9 @@ module _ (own ns : List ℕ) (a k : ℕ) where
   unfolding fits_in
   fits_out h = rw (le-ltb a (decls_of own) h)
 
--- ---- what a variable holds, as the code tests it
--- two forms are the same
-abbrev pub same : Form → Form → Bool
-same s f = sameb form s f
-
-held-same : (s f : Form) (x : ℕ)
-    → (if same s f then (if not (same s FBool) then true else leb x 1) else false) ≡ eqb (held_form s x) (number_of_form f)
-held-same FBool f x = go (leb x 1) f
-  where
-    go : (b : Bool) (f : Form)
-        → (if same FBool f then (if not (same FBool FBool) then true else b) else false) ≡ eqb (if b then 1 else 0) (number_of_form f)
-    go true FBool = refl
-    go true FUint = refl
-    go true FClass = refl
-    go true FPointer = refl
-    go false FBool = refl
-    go false FUint = refl
-    go false FClass = refl
-    go false FPointer = refl
-held-same FUint FBool x = refl
-held-same FUint FUint x = refl
-held-same FUint FClass x = refl
-held-same FUint FPointer x = refl
-held-same FClass FBool x = refl
-held-same FClass FUint x = refl
-held-same FClass FClass x = refl
-held-same FClass FPointer x = refl
-held-same FPointer FBool x = refl
-held-same FPointer FUint x = refl
-held-same FPointer FClass x = refl
-held-same FPointer FPointer x = refl
-
-pub fits-there : (own ns : List ℕ) (a : ℕ) (f : Form) → a < decls_of own → {s : Form} → s ≡ own_form own a
-    → (if same s f then (if not (same s FBool) then true else leb (get_or ns a 0) 1) else false) ≡ fits_in own ns a (number_of_form f)
-unfolding fits_in
-fits-there own ns a f h {s} e = held-same s f (get_or ns a 0) ∙ rw (lt-ltb a (decls_of own) h, e)
+  pub fits-there : a < decls_of own → {s : Form} {x : ℕ} → s ≡ own_form own a → x ≡ held_form s (get_or ns a 0) → eqb x k ≡ fits_in own ns a k
+  unfolding fits_in
+  fits-there h e q = rw (lt-ltb a (decls_of own) h, q, e)
 
 flag_small : (b : Bool) → (if b then 1 else 0) ≤ 1
 flag_small true = omega arith

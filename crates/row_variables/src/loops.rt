@@ -12,6 +12,7 @@ use kinds::{Counts, Row};
 use loop_checks::loops::matching_end;
 use machine::{Move, Worked};
 use prepared::Form;
+use prepared::forms::number_of;
 use prepared::own::row_word;
 use prepared::places::class_in;
 use row_kinds::operands::lost;
@@ -71,7 +72,7 @@ pub fn entry<'a>(
     let own = inputs.own;
     let a = row_word(own, row, 1) as usize;
     let v = iterator_number(own, class, from);
-    if fits(inputs, a, iterator_form(class)) {
+    if fits(inputs, a, number_of(iterator_form(class))) {
         if from <= upto {
             return Worked::Moves(Move::Enters(a, v, row, depth, from, upto), at);
         }

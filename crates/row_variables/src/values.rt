@@ -3,7 +3,7 @@ ghost use Rattle.std.specs.Prelude.{◌≡◌, List, ℕ, ◌<◌, ◌≤◌, �
 ghost use Rattle.model.specs.Table.Row.{assign};
 ghost use Rattle.prepared.specs.Own.{decls_of, number_of_form};
 ghost use Rattle.machine.specs.CodeMoves.{columns, BoolsFit, RowWorks};
-ghost use Rattle.row_kinds.specs.CodeRows.{fits_in, put_of, put_bool, put_uint, put_pointer};
+ghost use Rattle.row_kinds.specs.CodeRows.{held_form, fits_in, put_of, put_bool, put_uint, put_pointer};
 
 use evaluators::answers::{Answer, Failure};
 use evaluators::inputs::Inputs;
@@ -12,19 +12,33 @@ use lists::word_or_zero;
 use machine::{Move, Worked};
 use node_cycle::{bool_at, pointer_at, uint_at};
 use prepared::Form;
-use prepared::forms::form_at;
+use prepared::forms::{form_at, number_of};
 use row_kinds::operands::lost;
 
-// Whether variable a is there and holds a value of the form. A bool with another number than 0 and 1 holds none.
-pub fn fits<'a>(inputs: &Inputs<'a>, a: usize, form: Form) -> bool
+// The form of value that a variable of a form with a number holds, as a number: 1 bool, 2 uint, 3 pointer, 4 class; 0 for a bool with another
+// number than 0 and 1, which takes no value.
+fn held_form(form: Form, x: u32) -> u32
+    ensures { result ≡ held_form form x }
+{
+    match form {
+        Form::Bool if x <= 1 => 1,
+        Form::Bool => 0,
+        Form::Uint => 2,
+        Form::Class => 4,
+        Form::Pointer => 3,
+    }
+}
+
+// Whether variable a is there and holds a value of the form with this number.
+pub fn fits<'a>(inputs: &Inputs<'a>, a: usize, form: u32) -> bool
     requires { decls_of inputs.now.own.now ≤ 32 }
-    ensures { result ≡ fits_in inputs.now.own.now inputs.now.machine.now.numbers a (number_of_form form) }
+    ensures { result ≡ fits_in inputs.now.own.now inputs.now.machine.now.numbers a form }
 {
     if inputs.own[133] as usize <= a {
         return false;
     }
     let held = form_at(inputs.own, a);
-    held == form && (held != Form::Bool || inputs.machine.numbers[a] <= 1)
+    held_form(held, inputs.machine.numbers[a]) == form
 }
 
 // Variable a gets a value of the form; stuck where it holds none of that form.
@@ -32,7 +46,7 @@ fn put<'a>(inputs: &Inputs<'a>, a: usize, form: Form, number: u32, base: u32, at
     requires { decls_of inputs.now.own.now ≤ 32 }
     ensures { result ≡ put_of inputs.now.own.now inputs.now.machine.now.numbers a (number_of_form form) number base at }
 {
-    if fits(inputs, a, form) {
+    if fits(inputs, a, number_of(form)) {
         return Worked::Moves(Move::Puts(a, number, base), at);
     }
     Worked::Not(Failure::Stuck, at)

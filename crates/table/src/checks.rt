@@ -7,7 +7,7 @@ ghost use Rattle.line_checks.specs.Code.{Types};
 ghost use Rattle.table.specs.Code.{counts_of, first_of};
 
 use crate::verdict::{Check, Refusal};
-use kinds::{Lines, Ty};
+use kinds::Lines;
 use line_checks::depths::first_deep;
 use line_checks::marks::breaks_12;
 use line_checks::operands::{breaks_5, breaks_6, breaks_7, breaks_8};
@@ -30,7 +30,7 @@ pub(crate) fn check_lines(lines: Lines, reduced: bool) -> Result<(), Refusal>
 }
 
 // Checks 9 to 12, 16 and 17, with the types at hand.
-fn check_with(lines: Lines, reduced: bool, types: &[Ty]) -> Result<(), Refusal>
+fn check_with(lines: Lines, reduced: bool, types: &[u32]) -> Result<(), Refusal>
     requires in_sorts { InSorts (table_in lines) × There (table_in lines) }
     requires types { Types (table_in lines) types.now lines.counts.nodes }
     ensures { verdict_of result ≡ first_refusal (λ k. first_of k reduced lines.entry.words.now lines.entry.counts) (9 ∷ 10 ∷ 11 ∷ 12 ∷ 16 ∷ 17 ∷ []) }
@@ -49,7 +49,7 @@ pub(crate) fn check_senses(lines: Lines, reduced: bool) -> Result<(), Refusal>
     requires { InSorts (table_in lines) × There (table_in lines) }
     ensures { verdict_of result ≡ first_refusal (λ k. first_of k reduced lines.entry.words.now lines.entry.counts) (9 ∷ 10 ∷ 11 ∷ 12 ∷ 16 ∷ 17 ∷ []) }
 {
-    let mut types = [Ty::Bool; 1024];
+    let mut types = [0u32; 1024];
     fill_types(lines, &mut types);
     check_with(lines, reduced, &types)
 }

@@ -47,7 +47,8 @@ impl Check {
         }
     }
 
-    // The check over so many lines, each of which may break it.
+    // The check over so many lines, each of which may break it. For our crates above: all that is required is that the closure may be called for
+    // each number below `lines`.
     pub fn over_lines<F: Fn(usize) -> bool>(self, lines: usize, breaks: F) -> Result<(), Refusal>
         requires { (i : ℕ) → i < lines → F.pre breaks i }
         ensures { (test : ℕ → Bool) → ((i : ℕ) (b : Bool) → i < lines → F.post breaks i b → b ≡ test i)

@@ -5,6 +5,7 @@
 
 use file::{read_file, write_file};
 use std::io::Write;
+use table::Refusal;
 use testing::{check_of, print, print_part, print_refusal, print_verdict};
 use wire::{next_message, put_words, word};
 
@@ -19,6 +20,11 @@ const WORDS: usize = 10496;
 
 const BYTES: usize = 44032;
 
+// The refusal that a check gave, or that there is none.
+fn print_checked<W: Write>(to: &mut W, checked: Result<(), Refusal>) {
+    print_verdict(to, checked.map_err(|r| (r.check.number(), r.place as u64)));
+}
+
 // The check number of a buffer that was lent.
 fn print_buffer<W: Write, T: Copy + Into<u32>>(to: &mut W, lent: &[T]) {
     print_part(to, b" buffer ", u64::from(check_of(lent)));
@@ -27,7 +33,7 @@ fn print_buffer<W: Write, T: Copy + Into<u32>>(to: &mut W, lent: &[T]) {
 fn read_into<W: Write>(to: &mut W, file: &[u8], lent: &mut [u32]) {
     match read_file(file, lent) {
         Ok(lines) => print_part(to, b"lines ", u64::from(lines)),
-        Err(r) => print_refusal(to, r),
+        Err(r) => print_refusal(to, r.check.number(), r.place as u64),
     }
     print_buffer(to, lent);
 }
@@ -35,13 +41,13 @@ fn read_into<W: Write>(to: &mut W, file: &[u8], lent: &mut [u32]) {
 fn write_into<W: Write>(to: &mut W, words: &[u32], lent: &mut [u8]) {
     match write_file(words, lent) {
         Ok(bytes) => print_part(to, b"bytes ", u64::from(bytes)),
-        Err(r) => print_refusal(to, r),
+        Err(r) => print_refusal(to, r.check.number(), r.place as u64),
     }
     print_buffer(to, lent);
 }
 
 fn reduce_into<W: Write>(to: &mut W, words: &[u32], c1: u32, c2: u32, lent: &mut [u32]) {
-    print_verdict(to, reduction::reduce_table(words, c1, c2, lent));
+    print_checked(to, reduction::reduce_table(words, c1, c2, lent));
     print_buffer(to, lent);
 }
 
@@ -74,9 +80,9 @@ fn call<W: Write>(to: &mut W, head: &[u8], input: &[u8], words: &[u32]) {
     match word(head, 0) {
         0 | 2 => lend_words(to, head, input, words, n, fill),
         1 => lend_bytes(to, words, n, (fill % 256) as u8),
-        3 => print_verdict(to, table::check_table(words, false)),
-        4 => print_verdict(to, table::check_table(words, true)),
-        _ => print_verdict(to, reduction::check_pair(word(head, 12), word(head, 16))),
+        3 => print_checked(to, table::check_table(words, false)),
+        4 => print_checked(to, table::check_table(words, true)),
+        _ => print_checked(to, reduction::check_pair(word(head, 12), word(head, 16))),
     }
     print(to, b"\n");
 }

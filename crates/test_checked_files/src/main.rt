@@ -65,7 +65,7 @@ fn checked<W: Write>(to: &mut W, s: &[u8]) -> Result<(), Refusal> {
 // The line of a case.
 fn report<W: Write>(to: &mut W, s: &[u8]) {
     if let Err(r) = checked(to, s) {
-        print_refusal(to, r);
+        print_refusal(to, r.check.number(), r.place as u64);
         print(to, b"\n");
     }
 }

@@ -171,7 +171,7 @@ fn print_ran<W: Write>(to: &mut W, r: Ran, t: &[u32]) {
 fn print_answer<W: Write>(to: &mut W, answer: Result<Ran, Refusal>, t: &[u32], cells: &[u32]) {
     match answer {
         Ok(ran) => print_ran(to, ran, t),
-        Err(r) => testing::print_refusal(to, r),
+        Err(r) => testing::print_refusal(to, r.check.number(), r.place as u64),
     }
     print_part(to, b" cells ", u64::from(check_of_words(cells)));
 }

@@ -62,7 +62,7 @@ fn print_answer<W: Write>(to: &mut W, answer: Result<Ran, Refusal>, cells: &[u32
     print(to, b" ");
     match answer {
         Ok(ran) => print_ran(to, ran, cells),
-        Err(r) => testing::print_refusal(to, r),
+        Err(r) => testing::print_refusal(to, r.check.number(), r.place as u64),
     }
 }
 

@@ -7,7 +7,6 @@ ghost use Rattle.testing.specs.Checks.{mixed_with, check_number};
 use evaluators::answers::reason_number;
 use machine::End;
 use std::io::Write;
-use table::Refusal;
 
 // Output
 
@@ -22,16 +21,16 @@ pub fn print_part<W: Write>(to: &mut W, name: &[u8], n: u64) {
     let _ = write!(to, "{n}");
 }
 
-// Prints a refusal (rule 8.2), but not the end of its line.
-pub fn print_refusal<W: Write>(to: &mut W, r: Refusal) {
-    print_part(to, b"refused ", u64::from(r.check.number()));
-    print_part(to, b" line ", r.place as u64);
+// Prints a refusal (rule 8.2), by its number, which may be any, and its place, but not the end of its line.
+pub fn print_refusal<W: Write>(to: &mut W, number: u32, place: u64) {
+    print_part(to, b"refused ", u64::from(number));
+    print_part(to, b" line ", place);
 }
 
-// Prints a refusal, or that there is none.
-pub fn print_verdict<W: Write>(to: &mut W, checked: Result<(), Refusal>) {
+// Prints a refusal's number and place, or that there is none.
+pub fn print_verdict<W: Write>(to: &mut W, checked: Result<(), (u32, u64)>) {
     match checked {
-        Err(r) => print_refusal(to, r),
+        Err((number, place)) => print_refusal(to, number, place),
         Ok(()) => print(to, b"passes"),
     }
 }

@@ -10,8 +10,6 @@ use mathlib.Core.List.{List, [], ◌∷◌, ◌++◌}
 use lib.ListN.{length, get_or, take, drop, length-append}
 use lib.Seq.{take-suc}
 use borrow.Author.Tests.{lt-ltb, le-ltb}
-use Rattle.std.specs.Fmt.{decimal as printed_decimal}
-use Rattle.std.proofs.lemmas.Fmt.{decimal_by_steps}
 use Rattle.lists.proofs.TabLaws.{length-tab}
 use Rattle.lists.proofs.FallingLaws.{value-is}
 use Rattle.model.specs.Work.{Reason, reason_number}
@@ -37,10 +35,6 @@ module _ (n : ℕ) where
   unfolding decimal
   decimal-large h = value-is decimal_by [] n ∙ rw (le-ltb n 10 h, lt-ltb (n / 10) n (omega arith))
 
--- the library's text of a number is the same
-pub decimal-is : (n : ℕ) → n < 2 ^ 64 → decimal n ≡ printed_decimal n
-decimal-is = decimal_by_steps (λ n ds. decimal n ≡ ds) decimal-small (λ n ds h e. decimal-large n h ∙ ap (λ (ds : List ℕ). ds ++ (digit (n % 10) ∷ [])) e)
-
 -- a number below 10 to the k has at most k digits
 pub decimal-length : (k n : ℕ) → n < 10 ^ suc k → length (decimal n) ≤ suc k
 decimal-length zero n h = rw (decimal-small n (omega arith)) (omega arith)
@@ -65,6 +59,23 @@ word_more word i {b} {at = at} l h e =
 pub word_none : (b : List ℕ) (at : ℕ) → Puts [] b at b at
 unfolding push_all
 word_none b at = record { put = refl }
+
+-- a digit put by itself, and after the digits before it
+module _ {b c : List ℕ} {at i n d : ℕ} where
+  pub number_small : pushed c i ≡ push d (pushed b at) → d ≡ digit n → n < 10 → Puts (decimal n) b at c i
+  number_small e h l = record {
+    put = e ∙ ap (λ (x : ℕ). push x (pushed b at)) h ∙ sym (push-one (digit n) (pushed b at))
+        ∙ ap (λ (xs : List ℕ). push_all xs (pushed b at)) (sym (decimal-small n l));
+  }
+
+  pub number-large : {out : List ℕ} {next : ℕ} → Puts (decimal (n / 10)) b at c i → pushed out next ≡ push d (pushed c i) → d ≡ digit (n % 10) → 10 ≤ n
+      → Puts (decimal n) b at out next
+  number-large h e f l = record {
+    put = e ∙ ap (λ (x : ℕ). push x (pushed c i)) f ∙ ap (push (digit (n % 10))) h.put
+        ∙ sym (push-one (digit (n % 10)) (push_all (decimal (n / 10)) (pushed b at)))
+        ∙ sym (push-append (decimal (n / 10)) (digit (n % 10) ∷ []) (pushed b at))
+        ∙ ap (λ (xs : List ℕ). push_all xs (pushed b at)) (sym (decimal-large n l));
+  }
 
 -- one word after another
 pub then-put : {xs ys b c d : List ℕ} {at i j : ℕ} → Puts xs b at c i → Puts ys c i d j → Puts (xs ++ ys) b at d j

@@ -1,17 +1,16 @@
 // What the bench program prints, put into a lent buffer byte by byte. It is not put by `write!`: of what that wrote a proof knows only where it
-// answers Ok, and nothing says that it does.
+// answers Ok, and nothing says that it does. Nor are the digits those of the kit's `itoa`: our crates stand on one another and on std alone.
 #![tactic(auto)]
 
-ghost use Rattle.std.specs.Prelude.{◌≡◌, ◌++◌, ◌≤◌, length, drop};
+ghost use Rattle.std.specs.Prelude.{◌≡◌, ◌++◌, ◌<◌, ◌≤◌, length, drop};
 ghost use Rattle.machine.specs.View.{end_of};
 ghost use Rattle.pair.specs.Pairs.{line_of, said_of};
 ghost use Rattle.pair.specs.Pairs.PairSaid.{refusal, lines};
 ghost use Rattle.table.specs.Verdict.{check_number};
 ghost use Rattle.text.specs.CodePuts.{Puts};
-ghost use Rattle.text.specs.Text.{decimal, end_text, run_text, pair_text, printed};
+ghost use Rattle.text.specs.Text.{digit, decimal, end_text, run_text, pair_text, printed};
 
 use evaluators::answers::reason_number;
-use itoa::Buffer;
 use machine::End;
 use pair::{Line, Paired, pair_run};
 use recording::pushes::push;
@@ -28,13 +27,23 @@ fn put_word(out: &mut [u8], at: usize, word: &[u8]) -> usize
     next
 }
 
+// The character of a digit.
+fn digit_of(d: u64) -> u8
+    requires { d < 10 }
+    ensures { result ≡ digit d }
+{
+    48 + d as u8
+}
+
 // Puts a number in decimal.
 fn put_number(out: &mut [u8], at: usize, n: u64) -> usize
     ensures { Puts (decimal n) out.old at out.new result }
 {
-    let mut digits = Buffer::new();
-    let text = digits.format(n);
-    put_word(out, at, text.as_bytes())
+    if n < 10 {
+        return push(out, at, digit_of(n));
+    }
+    let next = put_number(out, at, n / 10);
+    push(out, next, digit_of(n % 10))
 }
 
 // Puts a part of a line: its name and a number, which has at most 20 digits.

@@ -6,6 +6,7 @@ use Rattle.machine.specs.declared.End.{End}
 use Rattle.table.specs.declared.verdict.Refusal.{Refusal}
 use Rattle.table.specs.Verdict.{check_number}
 use Rattle.runs.specs.declared.Ran.{Ran}
+use Rattle.wire.specs.declared.Refused.{Refused}
 
 -- an end by its number (rule 8.26; the ends: rule 2.29)
 abbrev pub end_number : End → ℕ
@@ -38,11 +39,15 @@ abbrev pub ran_head : Ran → List ℕ
 ran_head r =
     0 ∷ 0 ∷ end_number r.end ∷ reason_in r.end ∷ r.steps ∷ r.used % 2 ^ 32 ∷ r.used / 2 ^ 32 ∷ r.«record».machine.row ∷ []
 
--- a refusal's number and place, and nothing else (rules 6.1, 8.26)
-abbrev pub refused_head : Refusal → List ℕ
-refused_head r = check_number r.check ∷ r.place % 2 ^ 32 ∷ 0 ∷ 0 ∷ 0 ∷ 0 ∷ 0 ∷ 0 ∷ []
+-- a refusal that a check gave, by its number and its place (rule 6.1)
+abbrev pub refused_as : Refusal → Refused
+refused_as r = record { number = check_number r.check; place = r.place }
 
--- the head of what a run or the choice writer answered (rule 8.26)
-abbrev pub head_of : Result Ran Refusal → List ℕ
-head_of (Ok ran) = ran_head ran
-head_of (Err r) = refused_head r
+-- a refusal's number, whichever it is, and its place, and nothing else (rules 6.1, 8.26)
+abbrev pub refused_head : Refused → List ℕ
+refused_head r = r.number ∷ r.place % 2 ^ 32 ∷ 0 ∷ 0 ∷ 0 ∷ 0 ∷ 0 ∷ 0 ∷ []
+
+-- the head of what a run or the choice writer answered, where it is known what number and place a refusal says (rule 8.26)
+abbrev pub head_of : {R : Type 0} → (R → Refused) → Result Ran R → List ℕ
+head_of said (Ok ran) = ran_head ran
+head_of said (Err r) = refused_head (said r)

@@ -4,7 +4,7 @@
 
 ghost use Rattle.std.specs.Prelude.{◌≡◌, ◌<◌, ◌≤◌, length, IfSome};
 ghost use Rattle.wire.specs.Messages.{word_or_zero, words_of, byte_at, bytes_of};
-ghost use Rattle.wire.specs.Heads.{end_number, reason_in, ran_head, refused_head, head_of};
+ghost use Rattle.wire.specs.Heads.{end_number, reason_in, ran_head, refused_as, refused_head, head_of};
 
 use evaluators::answers::reason_number;
 use file::word::word_at;
@@ -131,13 +131,34 @@ fn ran_head(r: Ran) -> [u32; 8]
     ]
 }
 
+// A refusal by its number, which may be any, and its place.
+#[derive(Clone, Copy, PartialEq, Eq)]
+pub struct Refused {
+    pub number: u32,
+    pub place: usize,
+}
+
+// A refusal that a check gave has the check's number.
+impl From<Refusal> for Refused {
+    ghost from_gives = { λ r refused. refused ≡ refused_as r };
+
+    fn from(r: Refusal) -> Refused {
+        Refused {
+            number: r.check.number(),
+            place: r.place,
+        }
+    }
+}
+
 // The head of a refusal: its number and its place.
-pub fn refused_head(r: Refusal) -> [u32; 8]
-    ensures { result ≡ refused_head r }
+pub fn refused_head<R: Into<Refused>>(r: R) -> [u32; 8]
+    ensures { (said : R → Refused) → ((x : R) (refused : Refused) → R.converts x refused → refused ≡ said x)
+        → result ≡ refused_head (said r) }
 {
+    let refused: Refused = r.into();
     [
-        r.check.number(),
-        (r.place % 4294967296) as u32,
+        refused.number,
+        (refused.place % 4294967296) as u32,
         0,
         0,
         0,
@@ -149,11 +170,46 @@ pub fn refused_head(r: Refusal) -> [u32; 8]
 
 // What a run or the choice writer answered: a refusal's number and place, or 0; then the end, the reason of a failure, the steps, the choices
 // used, low and high, and the row, each 0 after a refusal.
-pub fn head_of(answer: Result<Ran, Refusal>) -> [u32; 8]
-    ensures { result ≡ head_of answer }
+pub fn head_of<R: Into<Refused>>(answer: Result<Ran, R>) -> [u32; 8]
+    ensures { (said : R → Refused) → ((x : R) (refused : Refused) → R.converts x refused → refused ≡ said x)
+        → result ≡ head_of said answer }
 {
     match answer {
         Ok(ran) => ran_head(ran),
         Err(r) => refused_head(r),
+    }
+}
+
+#[cfg(test)]
+mod tests {
+    use super::*;
+    use table::Check;
+
+    // A refusal by its number and place.
+    fn head_by(answer: Result<Ran, Refused>) -> [u32; 8]
+        ensures { result ≡ head_of (λ r. r) answer }
+    {
+        head_of(answer)
+    }
+
+    // A refusal that a check gave.
+    fn checked_head(answer: Result<Ran, Refusal>) -> [u32; 8]
+        ensures { result ≡ head_of refused_as answer }
+    {
+        head_of(answer)
+    }
+
+    #[test]
+    fn refusals(rt: HostRuntime) {
+        let most = Refused {
+            number: 4294967295,
+            place: 4294967303,
+        };
+        assert_eq!(rt; head_by(Err(most)), [4294967295, 7, 0, 0, 0, 0, 0, 0]);
+        let last = Refusal {
+            check: Check::Procedures,
+            place: 5,
+        };
+        assert_eq!(rt; checked_head(Err(last)), [17, 5, 0, 0, 0, 0, 0, 0]);
     }
 }

@@ -1,5 +1,5 @@
 -- The table's checks, then the size of the bytes lent; after a refusal they are as they were, else the file is in them.
-use Rattle.std.proofs.Common.{sym, arith}
+use Rattle.std.proofs.Common.{refl, sym, arith}
 use Rattle.std.proofs.lemmas.Result.{err_from_is_err_and}
 use Rattle.file.proofs.RoundTrips.{passing-short}
 use Rattle.file.proofs.WritingLaws.{by-table, by_size, done}
@@ -8,10 +8,10 @@ use Rattle.file.proofs.write_file.Goals as goal
 pub returns-in_err-check_table-clause-answer : goal.returns-in_err-check_table-clause-answer
 returns-in_err-check_table-clause-answer c =
     let p = err_from_is_err_and c.from_residual.result c.from_residual.ensures.1 in
-    rw (p.1, p.2) (by-table _ _ _ c.in_err-check_table.ensures).0
+    rw (p.1, p.2) (by-table _ _ c.in_err-check_table.ensures refl).0
 
 pub returns-in_err-check_table-clause-buffer : goal.returns-in_err-check_table-clause-buffer
-returns-in_err-check_table-clause-buffer c = (by-table _ _ _ c.in_err-check_table.ensures).1
+returns-in_err-check_table-clause-buffer c = (by-table _ _ c.in_err-check_table.ensures refl).1
 
 pub returns-then-out-ne-FILE_BYTES-clause-answer : goal.returns-then-out-ne-FILE_BYTES-clause-answer
 returns-then-out-ne-FILE_BYTES-clause-answer c =

@@ -2,7 +2,7 @@
 use Rattle.std.proofs.Common.{arith, sym, ◌∙◌, rules}
 use Rattle.std.proofs.lemmas.Result.{err_from_is_err_and}
 use Rattle.file.specs.Reading.{wrong_check, wrong_block}
-use Rattle.file.proofs.ReadingLaws.{wrong-in-length, wrong-in-check, wrong-in-block, wrong_in_room, accepts, lines_fit}
+use Rattle.file.proofs.ReadingLaws.{wrong-in-length, wrong-in-check, wrong-in-block, wrong_in_room, accepts, total_fits}
 use Rattle.file.proofs.checks.answer.Goals as goal
 
 pub returns-then-wrong_length : goal.returns-then-wrong_length
@@ -43,7 +43,7 @@ overflow_cast-result c =
     let long = sym c.wrong_length.ensures ∙ c.if-wrong_length.false in
     let sums = c.first_where.ensures (wrong_check bs) (λ i b l q. search rules) in
     let layout = c.first_where-2.ensures (wrong_block bs n) (λ i b l q. search rules) in
-    omega (arith, lines_fit bs c.args.room long _ sums c.in_ok-broken_at.ensures n _ c.lines_in_all-n.ensures layout c.in_ok-broken_at-2.ensures)
+    omega (arith, total_fits bs c.args.room long _ sums c.in_ok-broken_at.ensures n _ c.lines_in_all-n.ensures layout c.in_ok-broken_at-2.ensures)
 
 pub returns : goal.returns
 returns c =

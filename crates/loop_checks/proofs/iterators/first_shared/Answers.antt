@@ -1,18 +1,18 @@
 -- `iterators::first_shared` meets its contract: what is sought from line 0 on is what is sought from a row on, with the rows of the open loops kept.
 -- Assumes nothing.
 use borrow.Author.Rules.{rules}
-use Prim.Native.Nat.{◌+◌, ◌<◌}
+use Prim.Native.Nat.{ℕ, ◌+◌, ◌<◌}
 use native.Mathlib.Omega.{arith}
 use mathlib.Core.Path.{◌≡◌, refl, sym, ap, ◌∙◌}
 use lib.ListN.{set, length-set}
-use Rattle.model.specs.Table.{home, open_at, row_kind, nest_of}
+use Rattle.model.specs.Table.{home, is_opening, open_at, opens_procedure, row_kind, nest_of}
 use Rattle.model.specs.Table.Nest.{opens}
 use Rattle.kinds.specs.Kinds.{nest_said}
 use Rattle.kinds.specs.Code.{table_in}
 use Rattle.kinds.proofs.LineLaws.{home-more, home-none, row-hit, row-miss, row-none, rows_start}
-use Rattle.loop_checks.specs.Rules.{any, breaks16}
+use Rattle.loop_checks.specs.Rules.{breaks16}
 use Rattle.loop_checks.specs.Code.{kept_rows}
-use Rattle.loop_checks.proofs.IteratorLaws.{few-after, few-kept, kept-opening, kept-other, kept-slice, said-opens, shares-by, shares-none}
+use Rattle.loop_checks.proofs.IteratorLaws.{any-slice, few-after, few-kept, kept-opening, kept-other, said-opens, shares-by, shares-none}
 use Rattle.loop_checks.proofs.iterators.first_shared.Invariants.{shared}
 use Rattle.loop_checks.proofs.iterators.first_shared.Goals as goal
 use Rattle.loop_checks.proofs.iterators.first_shared.Goals.{in-Opens+else-opened_with, in_default}
@@ -32,7 +32,7 @@ returns-then-opened_with c =
     let nested = c.nest_of-nest in
     let nests = nested.ensures ∙ ap (λ k. nest_of (row_kind k)) c.kind_of_row-kind.ensures in
     let opening = ap nest_said c.in-Opens.is in
-    let found = c.opened_with.ensures ∙ ap (any _) (kept-slice at_head.opened at_head.count (omega arith)) in
+    let found = any-slice _ at_head.opened at_head.count c.opened_with.ensures (omega arith) (omega arith) in
     let shares = shares-by t at_head.row (nest_said nested.result) nests at_head.opened at_head.count at_head.invariant.2
     (home t at_head.row) opening in
     sym (at_head.invariant.3 ∙ row-hit (shared t) t c.requires.0 at_head.row inside
@@ -57,8 +57,10 @@ loop-row-preserved c =
     let inside = c.loop-row-test.true in
     let nested = c.nest_of-nest in
     let nests = nested.ensures ∙ ap (λ k. nest_of (row_kind k)) c.kind_of_row-kind.ensures in
+    let opened_here : c.opens_procedure.result ≡ is_opening t at_head.row =
+    c.opens_procedure.ensures ∙ ap (λ (k : ℕ). opens_procedure (row_kind k)) (omega (arith, c.kind_of_row-kind.ensures)) in
     let next : c.home_after-since.result ≡ home t (at_head.row + 1) =
-    rw (c.home_after-since.ensures.0, c.opens_procedure.ensures, c.kind_of_row-kind.ensures, at_head.invariant.5) (sym (home-more t at_head.row)) in
+    rw (c.home_after-since.ensures.0, opened_here, at_head.invariant.5) (sym (home-more t at_head.row)) in
     let r = at_head.row in
     let b = at_head.opened in
     let n = at_head.count in
@@ -68,7 +70,7 @@ loop-row-preserved c =
           let opening = ap nest_said w.in-Opens.is in
           let few : n < 8 = few-kept t r (nest_said nested.result) nests b n kept (c.requires.1.rows r inside) opening in
           let is : c.match-nest.opened ≡ set b n r = w.opened-is in
-          let found = w.opened_with.ensures ∙ ap (any _) (kept-slice b n (omega arith)) in
+          let found = any-slice _ b n w.opened_with.ensures (omega arith) (omega arith) in
           let shares = shares-by t r (nest_said nested.result) nests b n kept (home t r) opening in (
             omega (arith, counted.ensures.1),
             rw (is, length-set b n r) at_head.invariant.1,

@@ -8,7 +8,7 @@ pub returns-then-lacks_room : goal.returns-then-lacks_room
 unfolding lay_of
 returns-then-lacks_room c =
     rw (
-      sym c.fits.ensures ∙ c.if-fits.true,
+      rw c.number_of.ensures at (sym c.fits.ensures ∙ c.if-fits.true),
       ← c.used_in-used.ensures.0,
       ← c.size_for-size.ensures,
       sym c.lacks_room.ensures ∙ c.if-lacks_room.true,
@@ -18,7 +18,7 @@ pub returns-then-fits : goal.returns-then-fits
 unfolding lay_of
 returns-then-fits c =
     rw (
-      sym c.fits.ensures ∙ c.if-fits.true,
+      rw c.number_of.ensures at (sym c.fits.ensures ∙ c.if-fits.true),
       ← c.used_in-used.ensures.0,
       ← c.size_for-size.ensures,
       sym c.lacks_room.ensures ∙ c.if-lacks_room.false,
@@ -26,4 +26,4 @@ returns-then-fits c =
 
 pub returns : goal.returns
 unfolding lay_of
-returns c = rw (sym c.fits.ensures ∙ c.if-fits.false)
+returns c = rw (rw c.number_of.ensures at (sym c.fits.ensures ∙ c.if-fits.false))

@@ -12,6 +12,7 @@ returns-then-from-upto c =
     rw (
       ← c.row_word-a.ensures,
       ← c.iterator_form.ensures,
+      ← c.number_of.ensures,
       ← c.iterator_number-v.ensures,
       ← c.fits.ensures,
       c.if-fits.true,
@@ -24,6 +25,7 @@ returns-in_default c =
     rw (
       ← c.row_word-a.ensures,
       ← c.iterator_form.ensures,
+      ← c.number_of.ensures,
       ← c.fits.ensures,
       c.if-fits.true,
       lt-leb _ _ c.if-from-upto.false,
@@ -43,6 +45,7 @@ returns-then-fits c =
     rw (
       ← c.row_word-a.ensures,
       ← c.iterator_form.ensures,
+      ← c.number_of.ensures,
       ← c.iterator_number-v.ensures,
       ← c.fits.ensures,
       c.if-fits.true,
@@ -54,4 +57,4 @@ returns-then-fits c =
 pub returns : goal.returns
 unfolding entry_of
 returns c =
-    rw (← c.row_word-a.ensures, ← c.iterator_form.ensures, ← c.fits.ensures, c.if-fits.false)
+    rw (← c.row_word-a.ensures, ← c.iterator_form.ensures, ← c.number_of.ensures, ← c.fits.ensures, c.if-fits.false)

@@ -6,8 +6,8 @@ use Rattle.row_variables.proofs.values.put.Goals as goal
 
 pub returns-then-fits : goal.returns-then-fits
 unfolding put_of
-returns-then-fits c = rw (sym c.fits.ensures ∙ c.if-fits.true)
+returns-then-fits c = rw (← c.number_of.ensures, sym c.fits.ensures ∙ c.if-fits.true)
 
 pub returns : goal.returns
 unfolding put_of
-returns c = rw (sym c.fits.ensures ∙ c.if-fits.false)
+returns c = rw (← c.number_of.ensures, sym c.fits.ensures ∙ c.if-fits.false)
