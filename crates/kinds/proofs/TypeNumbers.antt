@@ -25,7 +25,8 @@ declaration-untyped k v u a b c e =
     rw (lt-leb 16 k low, row_unknown k (λ h. omega arith))
 
 module _ (v u a b c : Ty) where
-  node-types : (n : Node) → typed_case (node_typing n) (ty_number v) (ty_number u) (ty_number a) (ty_number b) (ty_number c) ≡ typed_node (of_operands a b c) n 0 1 2
+  node-types : (n : Node)
+      → typed_case (node_typing n) (ty_number v) (ty_number u) (ty_number a) (ty_number b) (ty_number c) ≡ typed_node (of_operands a b c) n 0 1 2
   unfolding typed_case
   node-types variable = refl
   node-types uint_constant = refl

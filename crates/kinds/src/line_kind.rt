@@ -3,7 +3,7 @@ ghost use Rattle.std.specs.Prelude.{◌≡◌};
 ghost use Rattle.model.specs.Table.{type_of, node_kind, row_kind};
 ghost use Rattle.kinds.specs.Kinds.{ty_said, node_said, row_said, HasKind};
 
-// The types as numbers, as a declaration writes them; any other number is no type.
+// The types as numbers, as a declaration writes them. Among the numbers that are kept of nodes any other is no type.
 pub const BOOL: u32 = 1;
 
 pub const UINT: u32 = 2;

@@ -22,8 +22,8 @@ use Rattle.model.specs.Table.Row.{skip, assign, store, assert, assume, array, lo
 use Rattle.model.specs.Table.Row.{procedure, returns, call, no_row}
 use Rattle.model.specs.Table.Role.{unused, flag, number, a_variable, a_node}
 use Rattle.model.specs.State.{MachineKind}
-use Rattle.model.specs.Accepted.{there, all_there, locals_there, node_there, row_there, type_by, node_type, ty_number, typed_node, node_typed, typed_row, row_typed}
-use Rattle.model.specs.Accepted.{is_reduced, node_suits_mark, row_suits_mark}
+use Rattle.model.specs.Accepted.{there, all_there, locals_there, node_there, row_there, type_by, node_type, ty_number, typed_node, node_typed, typed_row}
+use Rattle.model.specs.Accepted.{row_typed, is_reduced, node_suits_mark, row_suits_mark}
 use Rattle.model.proofs.Homes.{opens-is}
 use Rattle.model.proofs.ReduceLaws.{opens-43}
 use Rattle.kinds.specs.Kinds.{kind_at, machine_of, suits_mark}

@@ -29,7 +29,7 @@ fn held_form(form: Form, x: u32) -> u32
     }
 }
 
-// Whether variable a is there and holds a value of the form with this number.
+// Whether variable a is there and holds what this number stands for (`held_form`): a value of a form, or for 0 a bool that is none.
 pub fn fits<'a>(inputs: &Inputs<'a>, a: usize, form: u32) -> bool
     requires { decls_of inputs.now.own.now ≤ 32 }
     ensures { result ≡ fits_in inputs.now.own.now inputs.now.machine.now.numbers a form }
