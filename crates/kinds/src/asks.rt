@@ -1,13 +1,13 @@
 // What each kind of line asks of its operands, their types and their marks, and how it nests.
 ghost use Rattle.std.specs.Prelude.{◌≡◌, ℕ};
 ghost use Rattle.model.specs.Table.{Ty as TyOf};
-ghost use Rattle.model.specs.Table.{declaration_roles, node_roles, row_roles, row_kind, node_kind, nest_of, opens_procedure};
+ghost use Rattle.model.specs.Table.{row_kind, nest_of, opens_procedure};
 ghost use Rattle.model.specs.Accepted.{known, there, ty_number, type_by, node_suits, row_suits};
 ghost use Rattle.kinds.specs.Kinds.{machine_of, sort_number, sort_said, roles_of, roles_said, role_said, node_said, row_said, nest_said};
 ghost use Rattle.kinds.specs.Kinds.{value_suits, of_operands, typed_by, suits_mark};
 ghost use Rattle.kinds.specs.Code.{node_typing, row_typing, typed_case, typed_numbers, node_result, result_by};
 
-use crate::line_kind::{BOOL, Kind, Node, POINTER, Row, Ty, UINT};
+use crate::line_kind::{BOOL, Kind, Node, POINTER, Row, UINT};
 
 // A line's sort, by its kind: declarations stand before nodes, and nodes before rows.
 #[derive(Clone, Copy, PartialEq, Eq, PartialOrd, Ord)]
@@ -66,86 +66,76 @@ pub fn sort_of(kind: u32) -> Sort
     }
 }
 
-fn three(a: Role, b: Role, c: Role) -> Roles
-    ensures { (result.a ≡ a) × (result.b ≡ b) × (result.c ≡ c) }
-{
-    Roles { a, b, c }
-}
+// The roles of a, b and c, by a line's kind. Operand a of a declaration is its mark, which a bool has not; 0 and 4 to 15 read as a pointer. The locals
+// of a procedure are a stretch of variables, tested apart, and the number of a procedure is neither a variable nor a node.
+// It is a table and no match, since the kinds of lines come in an order that no processor foresees; and a static, since a const is put together anew
+// where it is read.
+static ROLES: [(Role, Role, Role); 46] = [
+    (Role::Flag, Role::Unused, Role::Unused),
+    (Role::Unused, Role::Unused, Role::Unused), // 1 bool
+    (Role::Flag, Role::Unused, Role::Unused), // 2 uint
+    (Role::Flag, Role::Unused, Role::Unused), // 3 pointer
+    (Role::Flag, Role::Unused, Role::Unused),
+    (Role::Flag, Role::Unused, Role::Unused),
+    (Role::Flag, Role::Unused, Role::Unused),
+    (Role::Flag, Role::Unused, Role::Unused),
+    (Role::Flag, Role::Unused, Role::Unused),
+    (Role::Flag, Role::Unused, Role::Unused),
+    (Role::Flag, Role::Unused, Role::Unused),
+    (Role::Flag, Role::Unused, Role::Unused),
+    (Role::Flag, Role::Unused, Role::Unused),
+    (Role::Flag, Role::Unused, Role::Unused),
+    (Role::Flag, Role::Unused, Role::Unused),
+    (Role::Flag, Role::Unused, Role::Unused),
+    (Role::Variable, Role::Unused, Role::Unused), // 16 variable
+    (Role::Number, Role::Unused, Role::Unused), // 17 uint constant
+    (Role::Flag, Role::Unused, Role::Unused), // 18 bool constant
+    (Role::Node, Role::Unused, Role::Unused), // 19 cell
+    (Role::Node, Role::Node, Role::Unused), // 20 +
+    (Role::Node, Role::Node, Role::Unused), // 21 -
+    (Role::Node, Role::Node, Role::Unused), // 22 <
+    (Role::Node, Role::Node, Role::Unused), // 23 <=
+    (Role::Node, Role::Node, Role::Unused), // 24 =
+    (Role::Node, Role::Node, Role::Node), // 25 if
+    (Role::Node, Role::Unused, Role::Unused), // 26 valid
+    (Role::Variable, Role::Unused, Role::Unused), // 27 class variable
+    (Role::Node, Role::Unused, Role::Unused), // 28 reduced cell
+    (Role::Node, Role::Unused, Role::Unused), // 29 reduced valid
+    (Role::Unused, Role::Unused, Role::Unused),
+    (Role::Unused, Role::Unused, Role::Unused),
+    (Role::Unused, Role::Unused, Role::Unused), // 32 skip
+    (Role::Variable, Role::Node, Role::Unused), // 33 assign
+    (Role::Node, Role::Node, Role::Unused), // 34 store
+    (Role::Node, Role::Unused, Role::Unused), // 35 assert
+    (Role::Node, Role::Unused, Role::Unused), // 36 assume
+    (Role::Variable, Role::Node, Role::Unused), // 37 array
+    (Role::Variable, Role::Node, Role::Node), // 38 loop
+    (Role::Unused, Role::Unused, Role::Unused), // 39 end of loop
+    (Role::Node, Role::Node, Role::Unused), // 40 reduced store
+    (Role::Variable, Role::Node, Role::Unused), // 41 reduced array
+    (Role::Variable, Role::Node, Role::Node), // 42 class loop
+    (Role::Number, Role::Number, Role::Unused), // 43 procedure
+    (Role::Node, Role::Unused, Role::Unused), // 44 return
+    (Role::Number, Role::Node, Role::Variable), // 45 call
+];
 
-// The mark of a declaration is its operand a; a bool has none.
-#[tactic(auto, unfolding(model::specs::Table::declaration_roles, model::specs::Table::type_of))]
-fn declaration_roles(kind: u32) -> Roles
-    ensures { roles_said result ≡ declaration_roles kind }
-{
-    match Ty::from(kind) {
-        Ty::Bool => three(Role::Unused, Role::Unused, Role::Unused),
-        Ty::Uint | Ty::Pointer => three(Role::Flag, Role::Unused, Role::Unused),
-    }
-}
-
-#[tactic(auto, unfolding(model::specs::Table::node_roles))]
-fn node_roles(node: Node) -> Roles
-    ensures { roles_said result ≡ node_roles (node_said node) }
-{
-    match node {
-        Node::Variable | Node::ClassVariable => three(Role::Variable, Role::Unused, Role::Unused),
-        Node::UintConstant => three(Role::Number, Role::Unused, Role::Unused),
-        Node::BoolConstant => three(Role::Flag, Role::Unused, Role::Unused),
-        Node::Cell | Node::Valid | Node::ReducedCell | Node::ReducedValid => three(
-            Role::Node,
-            Role::Unused,
-            Role::Unused,
-        ),
-        Node::Plus | Node::Minus | Node::Less | Node::AtMost | Node::Equal => three(
-            Role::Node,
-            Role::Node,
-            Role::Unused,
-        ),
-        Node::Conditional => three(Role::Node, Role::Node, Role::Node),
-        Node::Unknown => three(Role::Unused, Role::Unused, Role::Unused),
-    }
-}
-
-// The locals of a procedure are a stretch of variables, told apart; the number of a procedure is neither a variable nor a node.
-#[tactic(auto, unfolding(model::specs::Table::row_roles))]
-fn row_roles(row: Row) -> Roles
-    ensures { roles_said result ≡ row_roles (row_said row) }
-{
-    match row {
-        Row::Assign | Row::Array | Row::ReducedArray => three(
-            Role::Variable,
-            Role::Node,
-            Role::Unused,
-        ),
-        Row::Store | Row::ReducedStore => three(Role::Node, Role::Node, Role::Unused),
-        Row::Assert | Row::Assume | Row::Return => three(Role::Node, Role::Unused, Role::Unused),
-        Row::Loop | Row::ClassLoop => three(Role::Variable, Role::Node, Role::Node),
-        Row::Procedure => three(Role::Number, Role::Number, Role::Unused),
-        Row::Call => three(Role::Number, Role::Node, Role::Variable),
-        Row::Skip | Row::LoopEnd | Row::Unknown => three(Role::Unused, Role::Unused, Role::Unused),
-    }
-}
-
-#[tactic(auto, unfolding(crate::specs::Kinds::roles_of))]
 pub fn roles_of(kind: u32) -> Roles
     ensures { roles_said result ≡ roles_of kind }
 {
-    match Kind::from(kind) {
-        Kind::Declaration(_) => declaration_roles(kind),
-        Kind::Node(node) => node_roles(node),
-        Kind::Row(row) => row_roles(row),
-    }
+    let k = kind as usize;
+    let (a, b, c) = if k < ROLES.len() {
+        ROLES[k]
+    } else {
+        (Role::Unused, Role::Unused, Role::Unused)
+    };
+    Roles { a, b, c }
 }
 
-// An unused operand is 0, a flag at most 1.
+// An unused operand is 0, a flag at most 1. It compares, as `is_there` does: a match over the role would be a jump that no processor foresees.
 pub fn suits(role: Role, x: u32) -> bool
     ensures { result ≡ value_suits (role_said role) x }
 {
-    match role {
-        Role::Unused => x == 0,
-        Role::Flag => x <= 1,
-        Role::Number | Role::Variable | Role::Node => true,
-    }
+    ((role != Role::Unused) | (x == 0)) & ((role != Role::Flag) | (x <= 1))
 }
 
 // A variable is one of `vars`, a node is below `bound`.
@@ -153,11 +143,7 @@ pub fn is_there(role: Role, vars: usize, bound: usize, x: u32) -> bool
     ensures { result ≡ there (role_said role) vars bound x }
 {
     let i = x as usize;
-    match role {
-        Role::Variable => i < vars,
-        Role::Node => i < bound,
-        Role::Unused | Role::Flag | Role::Number => true,
-    }
+    ((role != Role::Variable) | (i < vars)) & ((role != Role::Node) | (i < bound))
 }
 
 // Whether the numbers of the nodes a, b and c are those of types that the node asks.
